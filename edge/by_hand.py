@@ -6,18 +6,14 @@ import subprocess
 from typing import List, Sequence, Tuple
 
 import python_client  # noqa: F401 (it says where the next ones lie)
-from wfserve.durable.log import LineLog
-from wfserve.durable.settings import Settings, read_header
+from wfserve.durable import Settings
+from wfserve.durable.edge_log import lines_in, read_header
 
 
 def lines_of(path: str) -> Tuple[Settings, List[bytes]]:
     """The settings of a log that was never compacted, and its lines for the program."""
-    log = LineLog(str(path))
-    try:
-        lines = list(log.lines())
-    finally:
-        log.close()
-    return read_header(lines[0], str(path))[0], lines[1:]
+    header, *lines = lines_in(str(path))
+    return read_header(header, str(path))[0], lines
 
 
 def replies_of(program: str, settings: Settings, lines: Sequence[bytes], load: Sequence[str] = ()) -> List[bytes]:

@@ -25,13 +25,13 @@ from typing import Dict, Iterable, Iterator, List, Optional, Tuple
 
 import python_client  # noqa: F401 (it says where the next ones lie)
 from aiohttp import ClientSession, UnixConnector, web
-from wfserve.server.attempts import Attempts
-from wfserve.server.backlog import LastPolls
-from wfserve.server.http import answer_faults
-from wfserve.server.listing import Workflows
-from wfserve.server.pages import Pages
-from wfserve.server.records import Recorded
-from wfserve.server.sweeping import Sweeper
+from wfserve.page.attempts import Attempts
+from wfserve.page.backlog import LastPolls
+from wfserve.page.faults import answer_faults
+from wfserve.page.listing import Workflows
+from wfserve.page.pages import Pages
+from wfserve.page.records import Recorded
+from wfserve.page.sweeping import Sweeper
 
 import snapshot_runs
 
@@ -123,6 +123,11 @@ class Edge:
         self._next: Optional[int] = None
         self._asking = asyncio.Lock()
         self._tasks: set = set()
+
+    @property
+    def queues(self) -> List[str]:
+        """The task queues, once the settings were asked for."""
+        return self.kept.settings.queues if self.kept is not None else []
 
     def submit(self, request: dict, begin: bytes, receiver) -> None:
         """Asks a call. The receiver gets the reply, or why there is none."""

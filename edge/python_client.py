@@ -9,8 +9,6 @@ ROOT = EDGE.parent
 CLIENT = ROOT / "clients/python"
 PACKAGE = CLIENT / "src"
 TESTS = CLIENT / "tests"
-# The words after a Python that run the server of which the edge is another one.
-SERVER = ["-m", "wfserve.server"]
 
 
 def add_paths(*folders: pathlib.Path) -> None:

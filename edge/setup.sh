@@ -6,7 +6,8 @@
 set -eu
 cd "$(dirname "$0")"
 packages=(librust-tokio-dev librust-hyper-dev librust-httparse-dev librust-httpdate-dev librust-serde-dev
-    librust-serde-derive-dev librust-serde-json-dev librust-crc32fast-dev librust-libc-dev librust-mio-dev librust-sha2-dev)
+    librust-serde-derive-dev librust-serde-json-dev librust-crc32fast-dev librust-libc-dev librust-mio-dev librust-sha2-dev
+    librust-tokio-rustls-dev librust-rustls-pemfile-dev)
 client=(librust-tokio-postgres-dev librust-tokio-native-tls-dev librust-native-tls-dev)
 is_there() {
     dpkg-query -W -f '${Status}' "$1" 2> /dev/null | grep -q 'ok installed'

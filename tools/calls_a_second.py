@@ -1,9 +1,9 @@
 #!/usr/bin/env python3
-"""Calls a second of the client in Python: straight to the program, through the log or a journal, and over HTTP.
+"""Calls a second of the client in Python: straight to the program, through a journal, and over HTTP.
 
     tools/calls_a_second.py PROGRAM [FOLDER]
 
-Each call signals a workflow, with a request id. Log and journal lie in FOLDER, on whose disk their syncs depend.
+Each call signals a workflow, with a request id. Journals and logs lie in FOLDER, on whose disk their syncs depend.
 """
 import pathlib
 import sys
@@ -33,7 +33,7 @@ def signals(service, thread, until, made):
 
 
 def measured(name, service, threads):
-    """Calls for some seconds from so many threads, and says how many that were a second."""
+    """Calls for some seconds from so many threads, and says how many that were a second. How many they were."""
     made, until = [], time.monotonic() + SECONDS
     running = [threading.Thread(target=signals, args=(service, i, until, made)) for i in range(threads)]
     for thread in running:
@@ -41,22 +41,17 @@ def measured(name, service, threads):
     for thread in running:
         thread.join()
     print(f"{name}, {threads} {'thread' if threads == 1 else 'threads'}: {sum(made) / SECONDS:,.0f} calls a second", flush=True)
+    return sum(made)
 
 
 def through_a_journal(program, folder, threads):
     """The same where the program keeps itself."""
-    kept = folder / f"{threads}.journal"
-    kept.mkdir()
-    through_a_log(program, kept, "through a journal", threads, 1_000)
-
-
-def through_a_log(program, log, name, threads, most_a_sync):
-    with DurableService([program], str(log), most_a_sync=most_a_sync) as service:
-        measured(name, service, threads)
-        lines = service.lines
+    kept = str(folder / f"{threads}.journal")
+    with DurableService([program], kept) as service:
+        count = measured("through a journal", service, threads)
     begun = time.monotonic()
-    with DurableService([program], str(log)):
-        print(f"    opened again: {lines / (time.monotonic() - begun):,.0f} lines a second", flush=True)
+    with DurableService([program], kept):
+        print(f"    opened again: {count / (time.monotonic() - begun):,.0f} lines a second", flush=True)
 
 
 def over_http(program, folder, threads):
@@ -71,8 +66,6 @@ def main(program, folder):
     with Service([program]) as service:
         measured("straight to the program", service, 1)
     for threads in (1, 16, 64):
-        through_a_log(program, folder / f"1-{threads}.log", "through the log, a sync for each", threads, 1)
-        through_a_log(program, folder / f"1000-{threads}.log", "through the log, grouped syncs", threads, 1_000)
         through_a_journal(program, folder, threads)
     for threads in (1, 16, 50):
         over_http(program, folder, threads)

@@ -38,10 +38,10 @@ PACKAGES, SETUP, DEV = "apt-get install git python3", "clients/python/setup.sh",
 WORK, START, RESULT = "wf work greeting", "wf start greeting:greeting hello-{} World", "wf result hello-{}"
 DESCRIBE, TEST = "wf describe hello-{}", "python3 -m unittest test_greeting"
 TRY = "./try examples/order.jsonl --queues orders,payments"
-SURVIVE = "python3 clients/python/examples/survive.py out/unproved/wfserve order.log"
-EDGE, WITH_EDGE = "edge/setup.sh", "./wf dev --log orders.log"
+SURVIVE = "python3 clients/python/examples/survive.py out/unproved/wfserve orders"
+SERVED = "./wf dev --log orders.log"
 TYPED = {
-    README: [PACKAGES, SETUP, WITH_EDGE, EDGE, TRY, SURVIVE],
+    README: [PACKAGES, SETUP, SERVED, TRY, SURVIVE],
     TUTORIAL: [SETUP, DEV, WORK, *(line.format(1) for line in (START, DESCRIBE, RESULT)), START.format(2), DESCRIBE.format(2),
                RESULT.format(2), TEST],
 }
@@ -161,27 +161,15 @@ def other_ways(day: Day) -> None:
         assert day.run(TRY).count("\n") == 23
     with day.step("`survive.py`, killed while it waits, and started again"):
         first = day.begin(SURVIVE, CLONE, "charging card 42")
-        log, late = day.root / CLONE.lstrip("/") / "order.log", time.monotonic() + MOST
-        while b"StartTimer" not in log.read_bytes() and time.monotonic() < late:
+        journal, late = day.root / CLONE.lstrip("/") / "orders/journal", time.monotonic() + MOST
+        while b"StartTimer" not in journal.read_bytes() and time.monotonic() < late:
             time.sleep(0.1)
         first.kill()
         first.wait()
         assert day.run(SURVIVE) == "shipped with receipt 4711\n"
 
 
-def compiled_edge(day: Day) -> None:
-    """The compiled edge in the place of the Python server."""
-    with day.step(f"`{EDGE}`: the compiled edge"):
-        day.run(EDGE)
-    with day.step(f"`{WITH_EDGE}`: a server with a page, by that edge"):
-        server = day.begin(WITH_EDGE, CLONE, f"serving {URL}")
-        assert "edge/target/release/wfedge" in os.readlink(f"/proc/{server.pid}/exe")
-        look_at_page()
-        server.terminate()
-        server.communicate()
-
-
-def first_day(root: Path, with_edge: bool) -> int:
+def first_day(root: Path) -> int:
     """Makes a Debian and does the day there. The status."""
     day = Day(root)
     with day.step("`debootstrap --variant=minbase bookworm`"):
@@ -197,8 +185,6 @@ def first_day(root: Path, with_edge: bool) -> int:
     own_workflow(day)
     until_survived = next(seconds for title, seconds in day.rows if title.startswith("**"))
     other_ways(day)
-    if with_edge:
-        compiled_edge(day)
     print("| Step | Seconds |\n|---|---|")
     for title, seconds in day.rows:
         print(f"| {title} | {seconds:.0f} |")

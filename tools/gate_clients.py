@@ -3,7 +3,8 @@
 
     tools/gate_clients.py          prints the modules' names
     tools/gate_clients.py run      runs them with the program that WFSERVE names; says which modules took long, and by
-                                   class what was skipped
+                                   class what was skipped. Tests that want a server are left to tools/gate edge, which
+                                   builds one
 
 A module belongs to them where one of its tests or classes is marked by `needs_program` (clients/python/tests/support/
 programs.py), also by inheritance. So the gate runs a new module without a list that names it. Status 0, 1 where a test
@@ -54,6 +55,12 @@ def wants_program(test: unittest.TestCase) -> bool:
     return getattr(test, "wants_program", False) or getattr(method, "wants_program", False)
 
 
+def wants_server(test: unittest.TestCase) -> bool:
+    """Whether it or its class is marked by `needs_server`."""
+    method = getattr(test, test._testMethodName)
+    return getattr(test, "wants_server", False) or getattr(method, "wants_server", False)
+
+
 def modules(tests: list[unittest.TestCase]) -> list[str]:
     """The modules in which a test wants the program, by name."""
     return sorted({type(test).__module__ for test in tests if wants_program(test)})
@@ -63,7 +70,7 @@ class OfModule(unittest.TestSuite):
     """The tests of a module. It knows how many seconds they took."""
 
     def __init__(self, name: str, tests: list[unittest.TestCase]):
-        super().__init__(test for test in tests if type(test).__module__ == name)
+        super().__init__(test for test in tests if type(test).__module__ == name and not wants_server(test))
         self.name = name
         self.seconds = 0.0
 
@@ -101,6 +108,7 @@ def run(folder: Path, seconds: float = SECONDS) -> int:
     parts = [OfModule(name, tests) for name in modules(tests)]
     wanted = unittest.TestSuite(parts)
     print(f"gate: {wanted.countTestCases()} tests of {len(parts)} modules want the program", flush=True)
+    print(f"gate: {sum(map(wants_server, tests))} tests that want a server are left to tools/gate edge", flush=True)
     # Once their time is over, standard error has the test that this was at, and the status is 1.
     faulthandler.dump_traceback_later(seconds, exit=True)
     result = unittest.TextTestRunner(verbosity=0, warnings="default").run(wanted)

@@ -34,7 +34,7 @@ TYPES = "tools/fields"
 # Where the client says what events mean, and the status of a run that no event has closed.
 HISTORIES, RUNNING = "clients/python/src/wfserve/events.py", "Running"
 # Where the servers say which keys a start has, and a signal with start too.
-PYTHON_STARTS, EDGE_STARTS = "clients/python/src/wfserve/operations.py", "edge/src/operations.rs"
+PYTHON_STARTS, EDGE_STARTS = "clients/python/src/wfserve/operations.py", "edge/src/call/operations.rs"
 # Rust's formatter breaks a line that is longer, and a pattern's fields that are.
 WIDTH = 100
 PATTERN_WIDTH = 18
@@ -663,7 +663,7 @@ def settled_by(opening: Table) -> list[str]:
 
 
 def start_keys(table: Table) -> Iterator[Part]:
-    """The keys that a start and a signal with start have, for both servers."""
+    """The keys that a start and a signal with start have, for the edge and the Python client."""
     named = {kind["name"]: [field.key for field in fields_of(kind)] for kind in table["type"]}
     keys = [key for key in named["Start"] if key in named["SignalWithStart"]]
     lines = textwrap.wrap(" ".join(keys), ROW_WIDTH - 8)

@@ -18,7 +18,7 @@ from typing import Any
 import client_package  # noqa: F401 (it says where the next ones lie)
 import generate
 from wfserve import __version__
-from wfserve.server.statuses import REFUSALS
+from wfserve.operations import STATUSES
 
 TOP = Path(__file__).resolve().parent.parent
 FILE = TOP / "docs/openapi.json"
@@ -121,8 +121,9 @@ def ref(name: str) -> Json:
 
 
 FAULTS = {
-    400: "BadCall: the body is no call", 401: "NoToken", 403: "WrongHost", 408: "SlowBody", 413: "the body is too long",
-    415: "NotJson: the content type isn't application/json", 500: "the server, its log or its program is at fault",
+    400: "BadCall: the body is no call", 401: "NoToken", 403: "WrongHost, or NotPermitted: the token lacks a right",
+    408: "SlowBody", 413: "the body is too long", 415: "NotJson: the content type isn't application/json",
+    429: "TooManyCalls: call again after Retry-After", 500: "the server, its log or its program is at fault",
     503: "Busy or Draining: call again after Retry-After", 507: "LogFull: the disk is full",
 }
 KEY = {
@@ -134,7 +135,7 @@ KEY = {
 
 def faults(refusals: bool) -> dict[str, Json]:
     """The answers that are no reply, and with them the refusals where these have statuses of their own."""
-    statuses = {*FAULTS, 422, *(REFUSALS.values() if refusals else ())}
+    statuses = {*FAULTS, 422, *(STATUSES.values() if refusals else ())}
     kind = "Refused" if refusals else "Fault"
     return {str(status): {"$ref": f"#/components/responses/{kind}{status}"} for status in sorted(statuses)}
 
@@ -143,8 +144,8 @@ def responses() -> Json:
     """What paths are answered that is no reply, or a refusal, by its status."""
     said = {**FAULTS, 422: "KeyReused: another call was made with this Idempotency-Key"}
     found = {f"Fault{status}": answer(text, ref("Fault")) for status, text in said.items()}
-    for status in sorted({*said, *REFUSALS.values()}):
-        names = [name for name, its in REFUSALS.items() if its == status]
+    for status in sorted({*said, *STATUSES.values()}):
+        names = [name for name, its in STATUSES.items() if its == status]
         texts = [said[status]] if status in said else []
         schema: Json = ref("Refusal") if names else ref("Fault")
         if names and texts:
@@ -258,7 +259,7 @@ def blob_get() -> Json:
 def schemas() -> Json:
     text = {"type": "string"}
     event = {"at": NUMBER, "attrs": {"type": "object"}, "id": NUMBER, "type": text}
-    refusal = {"error": {"type": "string", "enum": list(REFUSALS)}, "line": NUMBER, "no": NUMBER, "field": text, "run": RUN}
+    refusal = {"error": {"type": "string", "enum": list(STATUSES)}, "line": NUMBER, "no": NUMBER, "field": text, "run": RUN}
     return {
         "Command": {"type": "object", "required": ["type"], "properties": {"type": text},
                     "description": "a command of docs/PROFILE.md, as ScheduleActivityTask"},

@@ -42,6 +42,17 @@ class Alone(unittest.TestCase):
     def test_nothing(self):
         self.fail("it wants no program")
 """
+OF_SERVER = """
+import unittest
+from support.programs import needs_program
+
+@needs_program
+class OverAServer(unittest.TestCase):
+    wants_server = True
+
+    def test_that_is_left_out(self):
+        self.fail("another phase runs it")
+"""
 HANGS = """
 import time, unittest
 from support.programs import needs_program
@@ -64,6 +75,7 @@ FILES = {
     "tests/test_of_method.py": OF_METHOD,
     "tests/test_alone.py": ALONE,
     "tests/test_heir.py": HEIR,
+    "tests/test_of_server.py": OF_SERVER,
 }
 
 
@@ -79,7 +91,8 @@ class Chosen(Scratch):
         ran = self.ran(sys.executable)
         self.assertEqual(ran.returncode, 0, ran.stderr)
         self.assertEqual(ran.stdout.splitlines(), [
-            "gate: 4 tests of 3 modules want the program",
+            "gate: 4 tests of 4 modules want the program",
+            "gate: 1 tests that want a server are left to tools/gate edge",
             "gate: skipped: 1 of test_of_method.Mixed: there is no browser",
         ])
 
@@ -128,10 +141,13 @@ class OfTheClient(unittest.TestCase):
         listed = subprocess.run([sys.executable, gate_clients.__file__], capture_output=True, text=True, check=True)
         texts = {path.stem: path.read_text(encoding="utf-8") for path in gate_clients.TESTS.glob("test_*.py")}
         marked = {name for name, text in texts.items() if re.search(r"^\s*@needs_program$", text, re.MULTILINE)}
-        self.assertGreater(len(marked), 40)
+        self.assertGreater(len(marked), 30)
         self.assertEqual(marked - set(listed.stdout.split()), set())
+        # Those that want a server are marked too, for the phase that builds one.
+        served = {name for name, text in texts.items() if re.search(r"^\s*@needs_server$", text, re.MULTILINE)}
+        self.assertGreater(len(served), 15)
         # No test looks by itself whether the program is there: it would be skipped without a mark.
-        looking = re.compile(r"BUILT\.(exists|is_file)\(|os\.environ\.get\(\"WFSERVE\"")
+        looking = re.compile(r"(BUILT|EDGE)\.(exists|is_file)\(|os\.environ\.get\(\"WFSERVE\"")
         self.assertEqual([name for name, text in texts.items() if looking.search(text)], [])
 
 

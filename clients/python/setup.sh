@@ -1,19 +1,12 @@
 #!/usr/bin/env bash
-# Installs what wfserve.server needs beside Python, for Debian's own python3: aiohttp, and httptools and uvloop, with which
-# a call takes a third of the time. Does nothing where they are there; without root it wants aiohttp alone.
+# Installs what the page of a server needs beside Python, for Debian's own python3: aiohttp. Does nothing where it is there.
 set -eu
-python=/usr/bin/python3
-missing=()
-for module in aiohttp httptools uvloop; do
-    "$python" -c "import $module" 2> /dev/null || missing+=("python3-$module")
-done
-if [ "${#missing[@]}" -eq 0 ]; then
+if /usr/bin/python3 -c 'import aiohttp' 2> /dev/null; then
     exit 0
 fi
 if [ "$(id -u)" -ne 0 ]; then
-    echo "setup: as root, apt-get install ${missing[*]}" >&2
-    "$python" -c 'import aiohttp' 2> /dev/null
-    exit
+    echo "setup: as root, apt-get install python3-aiohttp" >&2
+    exit 2
 fi
 apt-get update -q
-apt-get install -q -y --no-install-recommends "${missing[@]}"
+apt-get install -q -y --no-install-recommends python3-aiohttp

@@ -1,6 +1,6 @@
 //! The compiled edge, without a client of a database: `postgres/` has the one with it.
 #![deny(unsafe_code)]
 
-fn main() {
-    std::process::exit(wfedge::run(std::env::args().skip(1), None));
+fn main() -> std::process::ExitCode {
+    wfedge::run(std::env::args().skip(1), None)
 }

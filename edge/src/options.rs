@@ -1,7 +1,9 @@
 //! The command line.
 
 use crate::core::Limits;
+use crate::net::tls::TlsFiles;
 use crate::settings::Named;
+use crate::turns::shards::ShardCount;
 use std::time::Duration;
 
 /// The address on which no token is wanted.
@@ -23,6 +25,12 @@ Serves a workflow service to many clients: HTTP, and JSON lines on a Unix socket
   --port PORT            the port, 7233 by default; 0 takes a free one
   --socket PATH          a Unix socket for JSON lines, which its owner alone can use
   --token-file FILE      a file with the token that every request has to bear
+  --tokens FILE          a file of tokens with names and rights; wf token new NAME writes one. It is read again at SIGHUP
+  --tls-cert FILE        the edge's certificate, and those up to one that clients trust, as PEM: HTTP is served by TLS alone
+  --tls-key FILE         its private key. Both files are read again at SIGHUP
+  --tls-client-ca FILE   the certificates that have signed those of clients, each of which needs one then
+  --access-log FILE      a file that gets a line of JSON for each request by HTTP; it is opened again at SIGHUP
+  --rate-limit N         how many requests a second each name of a token may make; without names, all together
   --queue-limit N        how many calls may wait, and as many polls; 10,000 by default
   --read-timeout SECONDS how long a request may take to come, 30 by default
   --shards N             how many shards a new log's service has, 1 by default
@@ -46,6 +54,11 @@ pub struct Options {
     pub port: u16,
     pub socket: Option<String>,
     pub token_file: Option<String>,
+    pub tokens: Option<String>,
+    pub tls: Option<TlsFiles>,
+    pub access_log: Option<String>,
+    /// How many requests a second each name may make.
+    pub rate_limit: Option<u32>,
     pub queue_limit: usize,
     pub read_timeout: Duration,
     pub named: Named,
@@ -65,6 +78,10 @@ impl Default for Options {
             port: 7233,
             socket: None,
             token_file: None,
+            tokens: None,
+            tls: None,
+            access_log: None,
+            rate_limit: None,
             queue_limit: 10_000,
             read_timeout: Duration::from_secs(30),
             named: Named::default(),
@@ -77,19 +94,25 @@ impl Default for Options {
 
 impl Options {
     /// Reads the words of a command line, or says which is wrong.
-    pub fn of(words: impl IntoIterator<Item = String>) -> Result<Options, String> {
-        let (mut options, mut words) = (Options::default(), words.into_iter());
+    pub fn parse(words: impl IntoIterator<Item = String>) -> Result<Options, String> {
+        let (mut options, mut tls, mut words) = (Options::default(), TlsWords::default(), words.into_iter());
         while let Some(word) = words.next() {
             let (name, value) = match word.split_once('=') {
                 Some((name, value)) => (name.to_string(), Some(value.to_string())),
                 None => (word, None),
             };
             let value = value.or_else(|| words.next()).ok_or_else(|| format!("{name} takes a value"))?;
-            options.take(&name, value)?;
+            if let Some(value) = tls.take(&name, value) {
+                options.take(&name, value)?;
+            }
         }
         if options.program.is_empty() {
             return Err("--program is missing".to_string());
         }
+        if options.token_file.is_some() && options.tokens.is_some() {
+            return Err("--token-file and --tokens: name one of them".to_string());
+        }
+        options.tls = tls.files()?;
         Ok(options)
     }
 
@@ -101,9 +124,12 @@ impl Options {
             "--port" => self.port = number(name, &value)?,
             "--socket" => self.socket = Some(value),
             "--token-file" => self.token_file = Some(value),
+            "--tokens" => self.tokens = Some(value),
+            "--access-log" => self.access_log = Some(value),
+            "--rate-limit" => self.rate_limit = Some(rate(name, &value)?),
             "--queue-limit" => self.queue_limit = number(name, &value)?,
             "--read-timeout" => self.read_timeout = seconds(name, &value)?,
-            "--shards" => self.named.shards = Some(number(name, &value)?),
+            "--shards" => self.named.shards = Some(shard_count(name, &value)?),
             "--queues" => self.named.queues = Some(value.split(',').map(str::to_string).collect()),
             "--capacity" => self.named.capacity = Some(number(name, &value)?),
             "--retention" => self.named.retention = Some(number(name, &value)?),
@@ -118,8 +144,50 @@ impl Options {
     }
 }
 
+/// The files of TLS, as they are named one after the other.
+#[derive(Default)]
+struct TlsWords {
+    cert: Option<String>,
+    key: Option<String>,
+    client_ca: Option<String>,
+}
+
+impl TlsWords {
+    /// Takes the value of an option of TLS, and gives that of another one back.
+    fn take(&mut self, name: &str, value: String) -> Option<String> {
+        let place = match name {
+            "--tls-cert" => &mut self.cert,
+            "--tls-key" => &mut self.key,
+            "--tls-client-ca" => &mut self.client_ca,
+            _ => return Some(value),
+        };
+        *place = Some(value);
+        None
+    }
+
+    /// The files, where TLS is wanted.
+    fn files(self) -> Result<Option<TlsFiles>, String> {
+        match self {
+            TlsWords { cert: Some(cert), key: Some(key), client_ca } => Ok(Some(TlsFiles { cert, key, client_ca })),
+            TlsWords { cert: None, key: None, client_ca: None } => Ok(None),
+            _ => Err("TLS needs --tls-cert and --tls-key".to_string()),
+        }
+    }
+}
+
+fn rate(name: &str, value: &str) -> Result<u32, String> {
+    match number(name, value)? {
+        0 => Err(format!("{name} takes from 1 on, and not {value}")),
+        rate => Ok(rate),
+    }
+}
+
 fn number<T: std::str::FromStr>(name: &str, value: &str) -> Result<T, String> {
     value.parse().map_err(|_| format!("{name} takes a whole number, and not {value}"))
+}
+
+fn shard_count(name: &str, value: &str) -> Result<ShardCount, String> {
+    ShardCount::new(number(name, value)?).ok_or_else(|| format!("{name} takes from 1 on, and not {value}"))
 }
 
 fn is_yes(name: &str, value: &str) -> Result<bool, String> {
@@ -148,7 +216,7 @@ mod tests {
     use super::*;
 
     fn options(text: &str) -> Result<Options, String> {
-        Options::of(text.split_whitespace().map(str::to_string))
+        Options::parse(text.split_whitespace().map(str::to_string))
     }
 
     #[test]
@@ -156,7 +224,7 @@ mod tests {
         let found =
             options("--program p --log=a.log --port 0 --shards 3 --queues a,b --page python3 --page x.py").unwrap();
         assert_eq!((found.program.as_str(), found.log.as_deref(), found.port), ("p", Some("a.log"), 0));
-        assert_eq!((found.named.shards, found.named.queues), (Some(3), Some(vec!["a".into(), "b".into()])));
+        assert_eq!((found.named.shards, found.named.queues), (ShardCount::new(3), Some(vec!["a".into(), "b".into()])));
         assert_eq!(found.page, ["python3", "x.py"]);
         assert_eq!(options("--program p").unwrap(), Options { program: "p".into(), ..Options::default() });
     }
@@ -166,10 +234,15 @@ mod tests {
         for (text, said) in [
             ("", "--program is missing"),
             ("--program", "--program takes a value"),
+            ("--program p --shards 0", "--shards takes from 1 on"),
             ("--program p --port 65536", "--port takes a whole number"),
             ("--program p --read-timeout 0", "--read-timeout takes from"),
             ("--program p --standby maybe", "--standby takes yes or no"),
             ("--program p --compact-bytes -1", "--compact-bytes takes a whole number"),
+            ("--program p --rate-limit 0", "--rate-limit takes from 1 on"),
+            ("--program p --tls-cert c", "TLS needs --tls-cert and --tls-key"),
+            ("--program p --tls-client-ca c", "TLS needs --tls-cert and --tls-key"),
+            ("--program p --token-file a --tokens b", "name one of them"),
             ("--program p --nothing 3", "there is no option --nothing"),
         ] {
             assert!(options(text).unwrap_err().contains(said), "{text}");

@@ -1,18 +1,24 @@
 //! Opens a service, serves it until a signal says to stop, and ends it.
 
-use crate::blobs::{Folder as BlobFolder, Store};
+use crate::access::caller::{Caller, NOBODY};
+use crate::access::log::AccessLog;
+use crate::access::rights::Rights;
+use crate::access::tokens::TokenFile;
 use crate::core::{Core, Threads};
-use crate::guard::Guard;
+use crate::http::page::Page;
 use crate::http::Front;
 use crate::lines::{self, Lines};
-use crate::listen::{self, Connections};
-use crate::moments::{MachineClocks, Moments};
-use crate::opening::Opened;
+use crate::log::blobs::{Folder as BlobFolder, Store};
+use crate::log::opening::Opened;
+use crate::log::table::{is_address, Client, Connect};
+use crate::net::guard::{Guard, Keys};
+use crate::net::listen::{self, Connections};
+use crate::net::tls::Tls;
 use crate::options::{Options, LOCAL};
-use crate::page::Page;
-use crate::say::say;
-use crate::system;
-use crate::table::{is_address, Client, Connect};
+use crate::os::stderr::report;
+use crate::os::system;
+use crate::reload::Reload;
+use crate::turns::clock::{Clock, MachineClocks};
 use std::fs;
 use std::io::Write;
 use std::os::unix::fs::DirBuilderExt;
@@ -93,7 +99,12 @@ impl Served {
 pub fn run(options: Options, client: Option<Client>) -> Result<(), String> {
     system::outlive_file_limits();
     system::raise_open_files();
-    let guard = guard_of(&options)?;
+    let reload = reload_of(&options)?;
+    let guard = guard_of(&options, &reload)?;
+    if reload.has_any() {
+        // A follower that is told to read its files again has read none.
+        system::ignore_hangups();
+    }
     // An edge that follows is ended by a signal, and leaves nothing.
     let (place, opened) = match &options.log {
         Some(log) => {
@@ -107,13 +118,17 @@ pub fn run(options: Options, client: Option<Client>) -> Result<(), String> {
             (Place::new(folder, &log, client, &opened), opened)
         }
     };
-    let moments = Moments::new(opened.last_moment(), Box::new(MachineClocks::new()));
+    if options.log.as_deref().map_or(false, is_address) {
+        // While it followed they may have been exchanged, and no signal was waited for.
+        reload.read_again();
+    }
+    let clock = Clock::new(opened.last_moment(), Box::new(MachineClocks::new()));
     // Sockets are one thread's: a second one gives nothing beside the program, the log and the clients.
     let runtime =
         Builder::new_multi_thread().worker_threads(1).enable_all().build().map_err(|fault| fault.to_string())?;
-    let started = Core::start(opened, moments, options.queue_limit, options.limits);
+    let started = Core::start(opened, clock, options.queue_limit, options.limits);
     let (core, threads) = started.map_err(|fault| fault.to_string())?;
-    let result = runtime.block_on(serve(&options, guard, core.clone(), &place));
+    let result = runtime.block_on(serve(&options, guard, reload, core.clone(), &place));
     finish(&core, threads);
     result
 }
@@ -122,10 +137,10 @@ pub fn run(options: Options, client: Option<Client>) -> Result<(), String> {
 fn opened(options: &Options, log: &str, client: Option<Client>) -> Result<Opened, String> {
     let has_page = !options.page.is_empty();
     let opened = match (is_address(log), client) {
-        (false, _) => Opened::of(&options.program, log, &options.named, has_page),
+        (false, _) => Opened::from_file(&options.program, log, &options.named, has_page),
         (true, Some(client)) => {
             let connect = Connect::new(client.table, log, options.silence);
-            Opened::of_table(&options.program, &connect, &options.named, has_page)
+            Opened::from_table(&options.program, &connect, &options.named, has_page)
         }
         (true, None) => {
             return Err(
@@ -141,34 +156,50 @@ fn finish(core: &Core, threads: Threads) {
     core.close();
     if !threads.join(ENDING) {
         let left = threads.left().join(", ");
-        say!("the program did not end with its input, and is killed: the log has all ({left})");
+        report!("the program did not end with its input, and is killed: the log has all ({left})");
         core.kill_program();
         threads.join(SHUTDOWN);
     }
 }
 
+/// Opens the files that are read again later.
+fn reload_of(options: &Options) -> Result<Reload, String> {
+    let tokens = options.tokens.as_ref().map(|path| TokenFile::open(path, options.rate_limit)).transpose()?;
+    let tls = options.tls.clone().map(Tls::open).transpose()?;
+    let access = options.access_log.as_ref().map(|path| AccessLog::open(path)).transpose()?;
+    Ok(Reload { tokens: tokens.map(Arc::new), tls: tls.map(Arc::new), access: access.map(Arc::new) })
+}
+
 /// Refuses other addresses without a token.
-fn guard_of(options: &Options) -> Result<Guard, String> {
-    let token = match &options.token_file {
-        None => None,
-        Some(path) => {
-            let text = fs::read_to_string(path).map_err(|fault| format!("{path}: {fault}"))?;
-            let token = text.trim().to_string();
-            if token.chars().count() < SHORTEST_TOKEN {
-                return Err(format!("the token of {path} has less than {SHORTEST_TOKEN} characters"));
-            }
-            Some(token)
-        }
+fn guard_of(options: &Options, reload: &Reload) -> Result<Guard, String> {
+    let keys = match (&options.token_file, &reload.tokens) {
+        (_, Some(tokens)) => Keys::File(tokens.clone()),
+        (Some(path), None) => Keys::One(token_in(path)?),
+        (None, None) => Keys::Nothing,
     };
     let is_local = options.host == LOCAL;
-    if !is_local && token.is_none() {
+    if !is_local && matches!(keys, Keys::Nothing) {
         return Err(format!("--host {} needs a --token-file", options.host));
     }
     let names = || vec![LOCAL.to_string(), "localhost".to_string()];
-    Ok(Guard::new(token, is_local.then(names)))
+    let mut guard = Guard::new(keys, is_local.then(names));
+    if options.rate_limit.is_some() {
+        guard = guard.with_anyone(Caller::new(NOBODY, Rights::all(), options.rate_limit));
+    }
+    Ok(if reload.tls.is_some() { guard.encrypted() } else { guard })
 }
 
-async fn serve(options: &Options, guard: Guard, core: Arc<Core>, place: &Place) -> Result<(), String> {
+/// The one token of a file.
+fn token_in(path: &str) -> Result<String, String> {
+    let text = fs::read_to_string(path).map_err(|fault| format!("{path}: {fault}"))?;
+    let token = text.trim().to_string();
+    if token.chars().count() < SHORTEST_TOKEN {
+        return Err(format!("the token of {path} has less than {SHORTEST_TOKEN} characters"));
+    }
+    Ok(token)
+}
+
+async fn serve(options: &Options, guard: Guard, reload: Reload, core: Arc<Core>, place: &Place) -> Result<(), String> {
     let text = |fault: std::io::Error| fault.to_string();
     let connections = Connections::new();
     let teller = core.clone();
@@ -178,16 +209,22 @@ async fn serve(options: &Options, guard: Guard, core: Arc<Core>, place: &Place) 
         true => None,
         false => Some(serve_page(options, &core, place, &connections, &mut served).map_err(text)?),
     };
-    let front = front_of(options, guard, core.clone(), page, place);
+    let front = Front { access: reload.access.clone(), ..front_of(options, guard, core.clone(), page, place) };
     let address = (options.host.as_str(), options.port);
     let listener = TcpListener::bind(address).await.map_err(|fault| format!("{}:{}: {fault}", address.0, address.1))?;
     let port = listener.local_addr().map_err(text)?.port();
-    served.tasks.push(tokio::spawn(listen::serve_tcp(listener, front, connections.clone())));
+    let tls = reload.tls.clone();
+    let scheme = if tls.is_some() { "https" } else { "http" };
+    served.tasks.push(tokio::spawn(listen::serve_tcp(listener, tls, Arc::new(front), connections.clone())));
+    if reload.has_any() {
+        let hangups = signal(SignalKind::hangup()).map_err(text)?;
+        served.tasks.push(tokio::spawn(reload.at_each(hangups)));
+    }
     if let Some(path) = &options.socket {
         let lines = Lines::start(path, core.clone(), connections.clone());
         served.lines.push(lines.map_err(|fault| format!("{path}: {fault}"))?);
     }
-    let result = wait(&core, &options.host, port).await;
+    let result = wait(&core, scheme, &options.host, port).await;
     served.stop();
     connections.stop(SHUTDOWN).await;
     if let Some(path) = &options.socket {
@@ -209,7 +246,7 @@ fn serve_page(
     if place.has_sweeps && place.blobs.has_any().unwrap_or(true) {
         page.want_sweeps();
     }
-    let front = front_of(options, Guard::default(), core.clone(), None, place);
+    let front = Arc::new(front_of(options, Guard::default(), core.clone(), None, place));
     let listener = lines::bind(&edge, |path| UnixListener::bind(path))?;
     served.tasks.push(tokio::spawn(listen::serve_private(listener, front, connections.clone())));
     served.lines.push(Lines::start(&asked, core.clone(), connections.clone())?);
@@ -217,20 +254,20 @@ fn serve_page(
     Ok(page)
 }
 
-fn front_of(options: &Options, guard: Guard, core: Arc<Core>, page: Option<Arc<Page>>, place: &Place) -> Arc<Front> {
+fn front_of(options: &Options, guard: Guard, core: Arc<Core>, page: Option<Arc<Page>>, place: &Place) -> Front {
     let is_private = page.is_none() && !options.page.is_empty();
     let blobs = place.blobs.clone();
-    Arc::new(Front { core, guard, page, blobs, is_private, read_timeout: options.read_timeout })
+    Front { core, guard, page, blobs, is_private, read_timeout: options.read_timeout, access: None }
 }
 
 /// Says where it serves, and waits until it is told to stop or nothing is served any more.
-async fn wait(core: &Core, host: &str, port: u16) -> Result<(), String> {
+async fn wait(core: &Core, scheme: &str, host: &str, port: u16) -> Result<(), String> {
     let text = |fault: std::io::Error| fault.to_string();
     let mut terminate = signal(SignalKind::terminate()).map_err(text)?;
     let mut interrupt = signal(SignalKind::interrupt()).map_err(text)?;
     let shown = if host.contains(':') { format!("[{host}]") } else { host.to_string() };
     let mut out = std::io::stdout();
-    writeln!(out, "serving http://{shown}:{port}/").and_then(|()| out.flush()).map_err(text)?;
+    writeln!(out, "serving {scheme}://{shown}:{port}/").and_then(|()| out.flush()).map_err(text)?;
     tokio::select! {
         fault = core.ended() => return Err(fault.to_string()),
         _ = terminate.recv() => {}

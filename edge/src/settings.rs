@@ -1,7 +1,8 @@
 //! What a service is opened with, as the first line of its log has it.
 
 use crate::json::quoted;
-use crate::log_fault::LogFault;
+use crate::log::fault::LogFault;
+use crate::turns::shards::ShardCount;
 use serde::Deserialize;
 
 const FORMAT: u64 = 1;
@@ -11,7 +12,7 @@ pub const MOST_CAPACITY: u32 = 65_536;
 /// What a service is opened with.
 #[derive(Clone, Debug, PartialEq, Eq)]
 pub struct Settings {
-    pub shards: u16,
+    pub shards: ShardCount,
     pub service: u64,
     pub queues: Vec<String>,
     /// How many tasks wait in a queue at most. It may grow while the log is kept, and never falls.
@@ -22,14 +23,20 @@ pub struct Settings {
 
 impl Default for Settings {
     fn default() -> Settings {
-        Settings { shards: 1, service: 1, queues: vec!["main".to_string()], capacity: 1_024, retention: 0 }
+        Settings {
+            shards: ShardCount::ONE,
+            service: 1,
+            queues: vec!["main".to_string()],
+            capacity: 1_024,
+            retention: 0,
+        }
     }
 }
 
 /// The settings that were named on the command line; all others are the log's own, or the defaults of a new one.
 #[derive(Clone, Debug, Default, PartialEq, Eq)]
 pub struct Named {
-    pub shards: Option<u16>,
+    pub shards: Option<ShardCount>,
     pub queues: Option<Vec<String>>,
     pub capacity: Option<u32>,
     pub retention: Option<u64>,
@@ -88,15 +95,12 @@ impl Settings {
     }
 
     /// The settings that a log's first line names, and how often the log was compacted.
-    pub fn of_header(header: &[u8], path: &str) -> Result<(Settings, u64), LogFault> {
-        let found: Header = match serde_json::from_slice(header) {
-            Ok(found) => found,
-            Err(_) => return Err(LogFault::Damaged(format!("{path}: this is no log of format {FORMAT}"))),
-        };
-        if found.format != FORMAT || found.shards == 0 {
-            return Err(LogFault::Damaged(format!("{path}: this is no log of format {FORMAT}")));
-        }
-        let Header { compacted, shards, service, queues, capacity, retention, .. } = found;
+    pub fn parse_header(header: &[u8], path: &str) -> Result<(Settings, u64), LogFault> {
+        let found = serde_json::from_slice(header).ok().filter(|header: &Header| header.format == FORMAT);
+        let found = found.and_then(|header| ShardCount::new(header.shards).map(|shards| (header, shards)));
+        let (header, shards) =
+            found.ok_or_else(|| LogFault::Damaged(format!("{path}: this is no log of format {FORMAT}")))?;
+        let Header { compacted, service, queues, capacity, retention, .. } = header;
         Ok((Settings { shards, service, queues, capacity, retention }, compacted))
     }
 
@@ -120,12 +124,13 @@ impl Settings {
 #[cfg(test)]
 mod tests {
     use super::*;
+    use crate::turns::shards::shards;
 
     #[test]
     fn a_header_is_read_as_it_was_written() {
-        let settings = Settings { queues: vec!["a".into(), "ü\"".into()], shards: 3, ..Settings::default() };
+        let settings = Settings { queues: vec!["a".into(), "ü\"".into()], shards: shards(3), ..Settings::default() };
         for generation in [0, 7] {
-            let found = Settings::of_header(&settings.header(generation), "a.log").unwrap();
+            let found = Settings::parse_header(&settings.header(generation), "a.log").unwrap();
             assert_eq!(found, (settings.clone(), generation));
         }
         // As the Python package writes it.
@@ -138,18 +143,18 @@ mod tests {
     #[test]
     fn what_is_no_header_is_refused() {
         for text in ["{}", "[]", r#"{"format":2,"shards":1,"service":1,"queues":[],"capacity":1,"retention":0}"#] {
-            let fault = Settings::of_header(text.as_bytes(), "a.log").unwrap_err();
+            let fault = Settings::parse_header(text.as_bytes(), "a.log").unwrap_err();
             assert_eq!(fault.to_string(), "a.log: this is no log of format 1");
         }
     }
 
     #[test]
     fn a_log_of_other_settings_is_refused_by_the_first_one() {
-        let log = Settings { shards: 2, capacity: 9, ..Settings::default() };
+        let log = Settings { shards: shards(2), capacity: 9, ..Settings::default() };
         let fault = log.check(&Settings { retention: 5, ..Settings::default() }, "a.log").unwrap_err();
         assert_eq!(fault.to_string(), "a.log: the log's shards is 2, and not 1");
-        assert!(log.check(&Settings { shards: 2, ..Settings::default() }, "a.log").is_ok());
+        assert!(log.check(&Settings { shards: shards(2), ..Settings::default() }, "a.log").is_ok());
         let named = Named { capacity: Some(7), ..Named::default() };
-        assert_eq!(log.with(&named), Settings { shards: 2, capacity: 7, ..Settings::default() });
+        assert_eq!(log.with(&named), Settings { shards: shards(2), capacity: 7, ..Settings::default() });
     }
 }

@@ -32,7 +32,8 @@ from the_edge import WFEDGE, children_of, programs_of, reply_by_key
 from by_hand import left_undone, replies_of, sweep_of
 from support.programs import BUILT, memory_folder
 from support.served import free_port
-from wfserve.durable.settings import Settings, read_header
+from wfserve.durable import Settings
+from wfserve.durable.edge_log import read_header
 
 SEED = int(os.environ.get("WFSERVE_SEED", random.randrange(1 << 32)))
 TAKEOVERS = int(os.environ.get("WFEDGE_TAKEOVERS", 8))

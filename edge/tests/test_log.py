@@ -22,8 +22,8 @@ from the_edge import needs_edge, program_of, reply_by_key
 
 from by_hand import left_undone, lines_of, replies_of, sweep_of
 from support.programs import BUILT, needs_program
-from wfserve.durable.log import LineLog
-from wfserve.durable.service import DurableService
+from wfserve.durable import DurableService, move_journal, move_log
+from wfserve.durable.edge_log import lines_in
 from test_server import WithAServer
 
 SEED = int(os.environ.get("WFSERVE_SEED", random.randrange(1 << 32)))
@@ -213,19 +213,18 @@ class ByHand(WithAServer):
         once = [key for key in keys if b"-poll-" not in key]
         self.assertEqual(len(once), len(set(once)))
 
-    def test_a_log_is_the_clients_and_the_edges_in_turn(self):
-        """Each goes on where the other one ended, and the edge gives its replies again by their keys."""
-        server = self.serve()
-        first = server.asked("POST", "/calls", b'{"op":"start","workflow_id":"w","workflow_type":"T","task_queue":"main"}',
-                             {"Idempotency-Key": "k"})
+    def test_a_log_becomes_a_journal_and_a_log_again(self):
+        """A client goes on where the edge ended, and the edge where the client did."""
+        server, kept = self.serve(), str(self.folder / "kept")
+        run = server.client().start("w", "T")
         server.stop()
-        with DurableService([str(BUILT)], str(self.log)) as service:
-            self.assertEqual(service.describe("w")["status"], "Running")
+        move_log([str(BUILT)], str(self.log), kept)
+        with DurableService([str(BUILT)], kept) as service:
+            self.assertEqual((service.describe("w")["status"], service.describe("w")["run"]), ("Running", run))
             service.call("signal", workflow_id="w", name="by the client", at=int(time.time() * 1_000))
+        self.log.rename(self.folder / "former")
+        move_journal(kept, str(self.log), command=[str(BUILT)])
         server.start()
-        again = server.asked("POST", "/calls", b'{"op":"start","workflow_id":"w","workflow_type":"T","task_queue":"main"}',
-                             {"Idempotency-Key": "k"})
-        self.assertEqual((first[0], again[2]), (200, first[2]))
         self.assertEqual(server.client().history("w")[-1]["attrs"]["name"], "by the client")
 
 
@@ -247,7 +246,7 @@ class FullDisk(WithAServer):
         self.assertEqual(server.stop(), 0)
         text = pathlib.Path(self.log).read_bytes()
         self.assertEqual((text.count(b'"name":"n'), text.count(b'"last"')), (served, 1))
-        LineLog(self.log).close()
+        self.assertEqual(len(list(lines_in(str(self.log)))) - 1, text.count(b'"op"'))
 
 
 if __name__ == "__main__":

@@ -16,16 +16,13 @@ import threading
 import time
 import unittest
 from concurrent.futures import ThreadPoolExecutor
-from unittest import mock
 
 from the_edge import needs_edge, program_of
 
 from by_hand import left_undone, replies_of, sweep_of
-from support import served
 from support.programs import BUILT, needs_program
 from support.served import has_ended, kill_all, until
-from wfserve.durable.log import LineLog
-from wfserve.durable.settings import read_header
+from wfserve.durable.edge_log import begin_log, read_header
 from wfserve.errors import Refused
 from test_log import ByHttp, ByLines, Client
 from test_server import WithAServer
@@ -319,29 +316,6 @@ class Compacted(WithAServer):
         self.assertEqual(server.asked("POST", "/calls", b'{"op":"terminate","workflow_id":"w0"}', {"Idempotency-Key": "k0"})[0], 422)
         self.assertEqual(self.generation(), 4)
 
-    def test_keys_are_known_where_the_edge_and_the_python_server_take_turns(self):
-        """Each compacts what the other one wrote, and calls come behind the compaction too."""
-        had, pythons = {}, (served.SERVER_PYTHON, os.environ["WFEDGE_PYTHON"])
-        for turn in range(6):
-            with mock.patch.object(served, "SERVER_PYTHON", pythons[turn % 2]):
-                server = self.serve("--compact-bytes", "0")
-            for key, (body, text) in had.items():
-                self.assertEqual(server.asked("POST", "/calls", body.encode(), {"Idempotency-Key": key})[2], text)
-            for number in range(6):
-                key, body = f"{turn}-{number}", json.dumps({
-                    "op": "signal_with_start", "workflow_id": f"w{number}", "workflow_type": "T", "task_queue": "main",
-                    "name": f"{turn}", "input": "\u00fc \"x\"",
-                })
-                had[key] = body, server.asked("POST", "/calls", body.encode(), {"Idempotency-Key": key})[2]
-                if number == turn % 5:
-                    self.assertEqual(server.asked("POST", "/compact", b"{}")[0], 200)
-            server.kill()
-        self.assertEqual(self.generation(), 6)
-        client = self.serve().client()
-        for number in range(6):
-            events = [event["attrs"] for event in client.history(f"w{number}") if event["type"] == "WorkflowExecutionSignaled"]
-            self.assertEqual([attrs["name"] for attrs in events], [f"{turn}" for turn in range(6)])
-
     def test_a_generation_of_records_is_opened_and_becomes_snapshots(self):
         server = self.serve("--shards", "2", "--capacity", "4")
         client = server.client(wait=20_000)
@@ -353,9 +327,7 @@ class Compacted(WithAServer):
         self.folder_of(1).mkdir(0o700)
         replies_of(BUILT, settings, lines, ["--save", str(self.folder_of(1))])
         self.log.unlink()
-        log, header = LineLog(str(self.log)), json.loads(settings.header())
-        log.append([json.dumps({**header, "compacted": 1}).encode()])
-        log.close()
+        begin_log(str(self.log), settings, 1)
         server.start()
         self.assertEqual(sorted(path.suffix for path in self.folder_of(1).iterdir()), [".rec", ".rec"])
         self.assertIn("the queues have room for", server.said.read_text())

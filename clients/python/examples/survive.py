@@ -1,4 +1,4 @@
-"""An order that survives being killed: python3 clients/python/examples/survive.py ./serve order.log
+"""An order that survives being killed: python3 clients/python/examples/survive.py ./serve orders
 
 Kill it while it waits, and run it again: it goes on, and the card is charged once.
 """
@@ -26,6 +26,6 @@ async def order(ctx, card):
 
 if __name__ == "__main__":
     if len(sys.argv) != 3:
-        sys.exit("usage: python3 survive.py PROGRAM LOG")
-    program, log = sys.argv[1:]
-    print(run([program], log, order, [charge], "order-17", "card 42"))
+        sys.exit("usage: python3 survive.py PROGRAM FOLDER")
+    program, folder = sys.argv[1:]
+    print(run([program], folder, order, [charge], "order-17", "card 42"))

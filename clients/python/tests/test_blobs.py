@@ -23,8 +23,8 @@ from wfserve.blobs import (
 from wfserve.client import Client
 from wfserve.errors import NotServed
 from wfserve.ids import run_id
-from wfserve.server.listing import Workflows
-from wfserve.server.sweeping import Sweeper
+from wfserve.page.listing import Workflows
+from wfserve.page.sweeping import Sweeper
 from wfserve.testing import WorkflowEnvironment
 from wfserve.workflows import Converter, Gzip, Retry, Worker, minutes, seconds, workflow
 

@@ -16,9 +16,10 @@ import unittest
 from unittest import mock
 
 from support import CLIENT, ROOT
+from support.logs import write_log
 from support.programs import BUILT, memory_folder, needs_program, needs_server
 from support.served import Server
-from wfserve.cli import dev, main, statuses
+from wfserve.cli import dev, main, serve, statuses
 from wfserve.cli.commands import COMMANDS
 from wfserve.cli.output import plain
 from wfserve.cli.words import duration, moment, span, value_of_word
@@ -141,8 +142,8 @@ class Completion(unittest.TestCase):
             self.assertEqual((said.stdout.strip(), said.stderr), (wanted, ""))
 
 
-class Dev(unittest.TestCase):
-    """Which program a server is started with."""
+class InATree(unittest.TestCase):
+    """A tree with a proved program and an edge, which are files alone."""
 
     def setUp(self):
         folder = tempfile.TemporaryDirectory()
@@ -154,6 +155,38 @@ class Dev(unittest.TestCase):
         for file, at in ((self.top / "crates.txt", 100), (self.source, 100), (self.proved, 200)):
             file.write_text("")
             os.utime(file, (at, at))
+        self.edge = self.top / serve.EDGE
+        self.edge.parent.mkdir(parents=True)
+        self.edge.write_text("")
+        self.edge.chmod(0o755)
+        self.enter(mock.patch.dict(os.environ))
+        for name in ("WFSERVE", "WFEDGE"):
+            os.environ.pop(name, None)
+        self.enter(mock.patch("wfserve.cli.serve.tree_of", return_value=self.top))
+
+    def enter(self, patch):
+        self.addCleanup(patch.stop)
+        return patch.start()
+
+    def page_words(self):
+        """The first words of a server of this tree."""
+        return [str(self.edge), "--page", "python", "--page", str(self.top / serve.PAGE)]
+
+    def became(self, *words):
+        """What the process became, or None, and what it said."""
+        said = io.StringIO()
+        with mock.patch("os.execve", side_effect=SystemExit) as becomes, contextlib.redirect_stderr(said), \
+                mock.patch("wfserve.cli.serve.python_for_page", return_value="python"), contextlib.suppress(SystemExit):
+            main(list(words))
+        err = said.getvalue()
+        if becomes.call_args is None:
+            return None, err
+        self.assertIn(str(CLIENT / "src"), becomes.call_args[0][2]["PYTHONPATH"])
+        return becomes.call_args[0][1], err
+
+
+class Dev(InATree):
+    """Which program a server is started with, and which edge."""
 
     def test_the_proved_program_is_taken_where_it_is_newer_than_its_sources(self):
         self.assertEqual(dev.chosen_program(None, self.top), (str(self.proved), False))
@@ -164,44 +197,31 @@ class Dev(unittest.TestCase):
 
     def test_a_program_that_is_named_is_taken(self):
         self.assertEqual(dev.chosen_program("mine", self.top), ("mine", False))
-        self.assertEqual(dev.chosen_program("mine", None), ("mine", False))
-        with self.assertRaisesRegex(ValueError, "name the program"):
-            dev.chosen_program(None, None)
-
-    def test_the_tree_is_found_from_the_package(self):
-        self.assertEqual(dev.tree_of(dev.__file__), ROOT)
-        self.assertTrue((ROOT / dev.BUILD).is_file())
-        self.assertIsNone(dev.tree_of("/tmp/site-packages/wfserve/cli/dev.py"))
 
     def test_it_becomes_the_server_and_says_what_it_is(self):
-        with mock.patch("os.execve") as becomes, mock.patch("wfserve.cli.dev.build", return_value=True) as builds:
-            with mock.patch("wfserve.cli.dev.tree_of", return_value=self.top), mock.patch.dict(os.environ):
-                os.environ.pop("WFSERVE", None)
-                os.environ.pop("WFEDGE", None)
-                os.utime(self.source, (300, 300))
-                with mock.patch("wfserve.cli.dev.python_for_server", return_value="python"):
-                    _, _, err = ran("dev", "--port", "0", "--queues", "a,b")
+        with mock.patch("wfserve.cli.dev.build", return_value=True) as builds:
+            os.utime(self.source, (300, 300))
+            words, err = self.became("dev", "--port", "0", "--queues", "a,b")
         program = str(self.top / dev.UNPROVED)
         builds.assert_called_once_with(program, self.top)
-        words = ["python", "-m", "wfserve.server", "--program", program, "--port", "0", "--queues", "a,b"]
-        self.assertEqual(becomes.call_args[0][:2], ("python", words))
-        self.assertIn(str(CLIENT / "src"), becomes.call_args[0][2]["PYTHONPATH"])
+        self.assertEqual(words, [*self.page_words(), "--program", program, "--port", "0", "--queues", "a,b"])
         self.assertIn("this program is not proved", err)
         self.assertIn("nothing is kept", err)
 
-    def test_a_compiled_edge_is_taken_where_it_is_built(self):
-        python, edge = ["python", "-m", "wfserve.server"], self.top / dev.EDGE
-        self.assertEqual(dev.front_words("python", None, self.top), python)
-        edge.parent.mkdir(parents=True)
-        edge.write_text("")
-        self.assertEqual(dev.front_words("python", None, self.top), python)
-        edge.chmod(0o755)
-        page = ["--page", "python", "--page", str(self.top / dev.PAGE)]
-        self.assertEqual(dev.front_words("python", None, self.top), [str(edge), *page])
-        self.assertEqual(dev.front_words("python", "/bin/true", self.top), ["/bin/true", *page])
-        for named, top in (("none", self.top), (None, None), (str(edge), None)):
-            self.assertEqual(dev.front_words("python", named, top), python)
-        self.assertTrue((ROOT / dev.PAGE).is_file())
+    def test_an_edge_that_is_missing_is_compiled_first(self):
+        self.edge.unlink()
+        (self.top / "edge/setup.sh").write_text(f"#!/bin/sh\necho compiling; cp /bin/true {self.edge}\n", encoding="utf-8")
+        (self.top / "edge/setup.sh").chmod(0o755)
+        words, err = self.became("dev", "--program", "mine")
+        self.assertEqual(words[0], str(self.edge))
+        self.assertIn("compiling the edge, which takes some minutes: edge/setup.sh", err)
+        # The second time it is there.
+        self.assertNotIn("compiling", self.became("dev", "--program", "mine")[1])
+        self.edge.unlink()
+        (self.top / "edge/setup.sh").write_text("#!/bin/sh\nexit 2\n", encoding="utf-8")
+        words, err = self.became("dev", "--program", "mine")
+        self.assertEqual(words, None)
+        self.assertIn("the compiled edge is not built: edge/setup.sh says why", err)
 
     def test_the_program_is_proved_beside_by_one_at_a_time(self):
         (self.top / "tools").mkdir()
@@ -223,13 +243,52 @@ class Dev(unittest.TestCase):
         self.assertEqual(said.read_text(), f"wfserve {min(19, os.nice(0) + 19)}\n" * 2)
 
     def test_without_aiohttp_it_says_what_installs_it(self):
-        with mock.patch("wfserve.cli.dev.python_for_server", return_value=None):
-            status, _, err = ran("dev")
+        with mock.patch("wfserve.cli.serve.NEEDS", "no_such_module"):
+            status, _, err = ran("dev", "--program", "mine")
         self.assertEqual(status, 2)
         self.assertIn("clients/python/setup.sh", err)
 
 
+class Serve(InATree):
+    def test_all_its_options_are_the_edges(self):
+        more = ["--log", "a log", "--standby=no", "--port", "0"]
+        words, err = self.became("serve", "--program", "mine", *more)
+        self.assertEqual((words, err), ([*self.page_words(), "--program", "mine", *more], ""))
+
+    def test_the_proved_program_is_built_where_none_is_named(self):
+        (self.top / "serve").write_text(f"#!/bin/sh\ncat > /dev/null; echo built >> {self.top}/said\n", encoding="utf-8")
+        (self.top / "serve").chmod(0o755)
+        words, _ = self.became("serve", "--log", "x")
+        self.assertEqual(words, [*self.page_words(), "--program", str(self.proved), "--log", "x"])
+        self.assertEqual((self.top / "said").read_text(), "built\n")
+        (self.top / "serve").write_text("#!/bin/sh\nexit 2\n", encoding="utf-8")
+        self.assertEqual(self.became("serve", "--log", "x")[0], None)
+        self.assertEqual(ran("serve", "--log", "x")[0], 2)
+
+    def test_another_edge_and_another_program_may_be_named(self):
+        os.environ.update(WFEDGE="/bin/true", WFSERVE="another")
+        words, _ = self.became("serve")
+        self.assertEqual((words[0], words[-1]), ("/bin/true", "another"))
+        os.environ["WFEDGE"] = "/nowhere"
+        self.assertIn("there is no compiled edge /nowhere: edge/setup.sh builds it", self.became("serve")[1])
+
+    def test_words_that_another_command_does_not_know_are_refused(self):
+        with self.assertRaises(SystemExit), contextlib.redirect_stderr(io.StringIO()) as err:
+            main(["result", "w", "--standby", "no"])
+        self.assertIn("unrecognized arguments: --standby no", err.getvalue())
+
+    def test_it_is_served_out_of_a_tree_alone(self):
+        with mock.patch("wfserve.cli.serve.tree_of", return_value=None):
+            self.assertIn("served out of a tree of wfserve", self.became("serve")[1])
+
+
 class Script(unittest.TestCase):
+    def test_the_tree_is_found_from_the_package(self):
+        self.assertEqual(serve.tree_of(serve.__file__), ROOT)
+        for part in (dev.BUILD, dev.PROVE, serve.SERVE, serve.PAGE, serve.BUILD_EDGE):
+            self.assertTrue((ROOT / part).is_file(), part)
+        self.assertIsNone(serve.tree_of("/tmp/site-packages/wfserve/cli/serve.py"))
+
     def test_it_runs_without_an_installation(self):
         kept = {name: value for name, value in os.environ.items() if name != "PYTHONPATH"}
         said = subprocess.run([ROOT / "wf", "--version"], cwd="/", env=kept, capture_output=True, text=True, check=True)
@@ -415,6 +474,29 @@ class OverAServer(unittest.TestCase):
         said = (0, "greeting:hello agrees with 1 history of long.jsonl\n", "")
         self.assertEqual(ran("replay", "long.jsonl", "greeting:hello", "--blobs", f"{self.folder / 'log'}.blobs"), said)
         self.assertEqual(ran("replay", "long.jsonl", "greeting:hello", "--blobs", "nowhere")[0], 1)
+
+
+@needs_program
+@needs_server
+class Compacts(unittest.TestCase):
+    def test_a_log_that_nobody_serves_is_compacted(self):
+        with memory_folder() as folder:
+            log = pathlib.Path(folder) / "a log"
+            write_log(log, [{"op": "start", "at": 1, "workflow_id": "w", "workflow_type": "T", "task_queue": "main"}])
+            words = ["compact-log", str(log), "--program", str(BUILT)]
+            status, out, err = ran(*words)
+            self.assertEqual((status, err), (0, ""))
+            self.assertRegex(out, r"^\d+ lines?, \d+ bytes; now \d+ bytes of snapshots\n$")
+            self.assertTrue((log.parent / "a log.records-1/shard-00.snap").is_file())
+            self.assertEqual(json.loads(ran(*words, "--json")[1])["ok"], "compacted")
+            server = Server(str(BUILT), log)
+            self.assertEqual(server.client().describe("w")["status"], "Running")
+            # It is served by now, and waited for no longer than the edge waits for a log.
+            status, _, err = ran(*words)
+            self.assertEqual((status, "it is not served" in err), (2, True))
+            server.stop()
+        status, _, err = ran("compact-log", "/nowhere/a.log", "--program", str(BUILT))
+        self.assertEqual((status, "there is no such log" in err), (2, True))
 
 
 @needs_program

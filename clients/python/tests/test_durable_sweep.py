@@ -1,8 +1,7 @@
-"""Long texts beside a log that no history names any more are deleted where somebody sweeps."""
+"""Long texts beside a journal that no history names any more are deleted where somebody sweeps."""
 
 import json
 import os
-import pathlib
 import tempfile
 import unittest
 
@@ -114,14 +113,11 @@ class Swept(unittest.TestCase):
 
 
 @needs_program
-class OverALog(unittest.TestCase):
-    def test_it_is_so_over_a_log_a_compacted_one_and_a_journal(self):
-        for kind in ("log", "compacted", "journal"):
-            with self.subTest(kind), tempfile.TemporaryDirectory() as folder:
-                path = pathlib.Path(folder) / "kept"
-                if kind == "journal":
-                    path.mkdir()
-                self.look(str(path), kind == "compacted")
+class OverAJournal(unittest.TestCase):
+    def test_it_is_so_over_a_journal_and_a_compacted_one(self):
+        for is_compacted in (False, True):
+            with self.subTest(is_compacted=is_compacted), tempfile.TemporaryDirectory() as folder:
+                self.look(f"{folder}/kept", is_compacted)
 
     def look(self, path, is_compacted):
         clock = Clock(1_000)

@@ -12,24 +12,21 @@ import time
 import unittest
 from unittest import mock
 
-from support.programs import BUILT, needs_program
-from test_durable import made_up_call
-from test_durable_journal import IDS, TWO, Journaled
+from support.programs import BUILT
+from test_durable import IDS, TWO, Journaled, made_up_call
 from wfserve.calls import Clock
 from wfserve.checkpoint import read_checkpoint
 from wfserve.durable import Compaction, DurableService, Settings
-from wfserve.durable.background import JOURNAL_SECONDS, JOURNAL_SIZE
 from wfserve.durable.background import bytes_since
 from wfserve.errors import CheckpointDamaged, Ended, NotCompacted, OtherJournal
 from wfserve.journal import Journal, framed
-from wfserve.server.listing import Workflows
-from wfserve.server.records import Recorded
+from wfserve.page.listing import Workflows
+from wfserve.page.records import Recorded
 
 SEED = int(os.environ.get("WFSERVE_SEED", random.randrange(1 << 32)))
 NEVER = Compaction(size=1 << 60, seconds=1e9)
 
 
-@needs_program
 class Compacted(Journaled):
     def number(self):
         found = read_checkpoint(self.kept)
@@ -199,7 +196,7 @@ class ByItself(Compacted):
         with self.open(compaction=None) as service:
             service.start("a", "w")
             self.assertIsNone(service._kept.compactor._watching)
-        self.assertEqual((JOURNAL_SIZE, JOURNAL_SECONDS), (64 << 20, 86_400.0))
+        self.assertEqual(Compaction(), Compaction(64 << 20, 86_400.0))
 
     def test_what_goes_wrong_is_told_and_it_is_tried_again(self):
         self.begin()

@@ -1,9 +1,9 @@
-"""Kills the driver and the program at drawn points, again and again, and looks for what is lost or doubled.
+"""Kills the driver and the program at drawn points, again and again, and looks for what is lost or doubled: over journals, of
+which half are compacted by themselves meanwhile, with texts that lie beside them. A compaction that runs outlives its driver.
 
 WFSERVE_SEED and WFSERVE_KILLS draw other points, and more of them.
 """
 
-import json
 import os
 import random
 import signal
@@ -17,29 +17,29 @@ from dataclasses import dataclass, field
 
 from support import TESTS, kill_driver
 from support.programs import BUILT, needs_program
+from wfserve.blobs import Blobs, MemoryStore, names_in, store_beside
 from wfserve.calls import Service
+from wfserve.checkpoint import read_checkpoint
 from wfserve.durable import DurableService
-from wfserve.durable.compaction import kept_log
-from wfserve.durable.log import open_lines
 from wfserve.errors import Refused
 from wfserve.journal import Journal
 
 SEED = int(os.environ.get("WFSERVE_SEED", random.randrange(1 << 32)))
 KILLS = int(os.environ.get("WFSERVE_KILLS", 240))
-LOGS, THREADS = 8, 6
-# A thread's calls on a log: enough that a dozen and more are answered between two kills.
-CALLS = max(120, 3 * KILLS // 5)
+JOURNALS, THREADS = 8, 6
+# A thread's calls on a journal: enough that a dozen and more are answered between two kills.
+CALLS = max(40, 3 * KILLS // 5)
 
 
 @dataclass
 class Disturbed:
-    """One log, or the folder of a journal, whose driver is killed so many times before all its calls are answered."""
+    """The folder of a journal, whose driver is killed so many times before all its calls are answered."""
 
-    log: str
+    folder: str
     seed: str
     kills: int
     compacted: bool = False
-    answers: dict = field(default_factory=dict)
+    answers: set = field(default_factory=set)
     killed: int = 0
     opened: int = 0
 
@@ -57,7 +57,7 @@ class Disturbed:
         # The driver is killed at the opening, or after so many answers and so much time more.
         point = draw.randrange(2 + left // rounds) if rounds else None
         more = draw.choice([0, draw.random() / 1000, draw.random() / 20])
-        command = [sys.executable, "-S", str(TESTS / "support/kill_driver.py"), str(BUILT), self.log, self.seed]
+        command = [sys.executable, "-S", str(TESTS / "support/kill_driver.py"), str(BUILT), self.folder, self.seed]
         driver = subprocess.Popen(
             [*command, str(int(self.compacted)), str(THREADS), str(CALLS), *map(str, counts)],
             stdout=subprocess.PIPE, start_new_session=True, text=True,
@@ -83,27 +83,16 @@ class Disturbed:
             if line == "open\n":
                 self.opened += 1
                 continue
-            thread, number, at = map(int, line.split())
-            self.answers[thread, number] = at
+            self.answers.add(tuple(map(int, line.split())))
             heard += 1
         return False
 
 
-def logged_requests(log):
-    """The requests of all lines that a log had in its generations, in their order; or those of a journal."""
-    if os.path.isdir(log):
-        with Journal(os.path.join(log, "journal")) as journal:
-            return requests_in(step.entry for step in journal.steps())
-    generation = json.loads(next(open_lines(log))).get("compacted", 0)
-    # The one before is kept by the compaction, and the others by the driver.
-    former = [f"{log}.kept-{number}" for number in range(generation - 1)]
-    paths = [*former, kept_log(log, generation - 1), log] if generation else [log]
-    return [json.loads(line) for path in paths for line in list(open_lines(path))[1:]]
-
-
-def requests_in(entries):
-    """The requests of a journal that were made under an id."""
-    return [entry["request"] for entry in entries if "request_id" in entry["request"]]
+def kept_requests(folder):
+    """The requests of a journal that were made under an id, in their order. It was never compacted."""
+    with Journal(os.path.join(folder, "journal")) as journal:
+        requests = [step.entry["request"] for step in journal.steps()]
+    return [request for request in requests if "request_id" in request]
 
 
 def histories(service, workflow_ids):
@@ -118,7 +107,7 @@ def histories(service, workflow_ids):
 
 
 def undisturbed(requests, workflow_ids):
-    """The histories that a service without a log has after each of these calls was made once."""
+    """The histories that a service without a journal has after each of these calls was made once."""
     with Service([str(BUILT)]) as service:
         for request in requests:
             fields = {name: value for name, value in request.items() if name not in ("op", "at")}
@@ -130,6 +119,16 @@ def undisturbed(requests, workflow_ids):
         return histories(service, workflow_ids)
 
 
+def without_order(found):
+    """Histories without what depends on the order of calls of several threads: moments, and the numbers of runs."""
+    return {
+        workflow_id: events if isinstance(events, str) else [
+            {**event, "at": 0, "attrs": {**event["attrs"], "first_run": ""}} for event in events
+        ]
+        for workflow_id, events in found.items()
+    }
+
+
 @needs_program
 class Killed(unittest.TestCase):
     def test_no_answered_call_is_lost_and_none_counts_twice(self):
@@ -137,45 +136,55 @@ class Killed(unittest.TestCase):
         begun = time.monotonic()
         with tempfile.TemporaryDirectory() as folder, ThreadPoolExecutor(4) as pool:
             runs = [
-                Disturbed(os.path.join(folder, f"{i}.log"), f"{SEED}-{i}", KILLS // LOGS, i % 2 == 1)
-                for i in range(LOGS)
+                Disturbed(os.path.join(folder, str(i)), f"{SEED}-{i}", KILLS // JOURNALS, i % 2 == 1)
+                for i in range(JOURNALS)
             ]
-            # Two of them are journals.
-            for run in runs[::4]:
-                os.mkdir(run.log)
             list(pool.map(Disturbed.run, runs))
             for run in runs:
                 self.check(run)
+            compacted = [read_checkpoint(run.folder).number for run in runs if run.compacted]
         killed, answers = sum(run.killed for run in runs), sum(len(run.answers) for run in runs)
         opened = sum(run.opened for run in runs)
         print(
-            f"kill test: {killed} kills, {killed + LOGS - opened} of them before the log was open again, "
-            f"{answers} calls answered, {time.monotonic() - begun:.0f} s",
+            f"kill test: {killed} kills, {killed + JOURNALS - opened} of them before the journal was open again, "
+            f"{answers} calls answered, compacted {compacted} times, {time.monotonic() - begun:.0f} s",
             file=sys.stderr,
         )
-        self.assertGreaterEqual(killed, LOGS * (KILLS // LOGS) // 2)
+        self.assertGreaterEqual(killed, JOURNALS * (KILLS // JOURNALS) // 2)
 
     def check(self, run):
-        wanted = {
-            request["request_id"]: request
-            for thread in range(THREADS) for request in kill_driver.script(run.seed, thread, CALLS)
-        }
-        requests = logged_requests(run.log)
-        firsts = {}
-        for request in requests:
+        # The driver's answers are all calls: none is left.
+        self.assertEqual(run.answers, {(thread, number) for thread in range(THREADS) for number in range(CALLS)})
+        blobs = Blobs(MemoryStore())
+        scripts = [kill_driver.script(run.seed, thread, CALLS) for thread in range(THREADS)]
+        wanted = [kill_driver.with_short_input(request, blobs) for script in scripts for request in script]
+        workflow_ids = {request["workflow_id"] for request in wanted}
+        with DurableService([str(BUILT)], run.folder, compaction=None) as service:
+            found = histories(service, workflow_ids)
+        if run.compacted:
+            # The snapshots don't have the requests. Each thread's workflows are its own.
+            self.assertEqual(without_order(found), without_order(undisturbed(wanted, workflow_ids)))
+        else:
+            self.assertEqual(found, undisturbed(self.firsts(run, wanted), workflow_ids))
+        self.look_at_texts(run, names_in(str(found)), {blobs.decode(request.get("input", "")) for request in wanted})
+
+    def look_at_texts(self, run, names, texts):
+        """All that histories name lies beside the journal, as a call had it."""
+        store = store_beside(run.folder)
+        self.assertGreater(len(names), THREADS)
+        self.assertEqual(names - set(store.names()), set(), "a text is lost")
+        self.assertLessEqual({store.get(name).decode() for name in names}, texts)
+
+    def firsts(self, run, wanted):
+        """Each call as the journal has it first. It may have been made again: then it took effect once."""
+        wanted, firsts = {request["request_id"]: request for request in wanted}, {}
+        for request in kept_requests(run.folder):
             asked = wanted[request["request_id"]]
             # A journal has every default written out.
             self.assertEqual({name: request[name] for name in asked}, asked)
             firsts.setdefault(request["request_id"], asked)
-        for (thread, number), line in run.answers.items():
-            self.assertIn(f"{thread}:{number}", firsts, "an answered call is missing")
-            if not run.compacted and not os.path.isdir(run.log):
-                self.assertEqual(requests[line - 1]["request_id"], f"{thread}:{number}", "another line's answer")
-        self.assertEqual(set(firsts), set(wanted), "a call was never answered")
-        # Refusals of a call that was made again are the same as at first; what took effect did so once.
-        workflow_ids = {request["workflow_id"] for request in requests}
-        with DurableService([str(BUILT)], run.log) as service:
-            self.assertEqual(histories(service, workflow_ids), undisturbed(firsts.values(), workflow_ids))
+        self.assertEqual(set(firsts), set(wanted), "an answered call is missing")
+        return firsts.values()
 
 
 if __name__ == "__main__":

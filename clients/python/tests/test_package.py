@@ -19,9 +19,8 @@ from wfserve.errors import WfserveError
 
 # They end or cancel what runs, and no `except Exception` may catch them.
 NO_EXCEPTIONS = {"Blocked", "Cancelled", "ContinueAsNew", "ReplayOver"}
-# These need aiohttp or httptools.
-WANTING = ("wfserve.server.__main__", "wfserve.server.blobs", "wfserve.server.connections", "wfserve.server.front",
-           "wfserve.server.http", "wfserve.server.lingering", "wfserve.server.pages")
+# These need aiohttp.
+WANTING = ("wfserve.page.faults", "wfserve.page.pages")
 
 
 def module_names():
@@ -34,7 +33,7 @@ def loaded():
         try:
             yield importlib.import_module(name)
         except ModuleNotFoundError as missing:
-            if name not in WANTING or missing.name.partition(".")[0] not in ("aiohttp", "httptools"):
+            if name not in WANTING or missing.name.partition(".")[0] != "aiohttp":
                 raise
 
 
@@ -77,7 +76,7 @@ class Package(unittest.TestCase):
     def test_a_module_that_needs_nothing_loads_with_nothing(self):
         names = [name for name in module_names() if name not in WANTING and not name.endswith("__main__")]
         self.assertGreater(len(names), 40)
-        code = "import sys\nsys.modules['aiohttp'] = sys.modules['httptools'] = None\n"
+        code = "import sys\nsys.modules['aiohttp'] = None\n"
         code += "".join(f"import {name}\n" for name in names)
         subprocess.run([sys.executable, "-S", "-c", code], check=True)
 
@@ -116,7 +115,7 @@ class Installed(unittest.TestCase):
         self.assertIn("replay", self.ran("-m", "wfserve.workflows", "--help"))
 
     def test_the_page_and_the_mark_for_types_come_along(self):
-        for part in ("py.typed", "server/page/index.html", "server/page/workflow.js", "server/page/page.css"):
+        for part in ("py.typed", "page/files/index.html", "page/files/workflow.js", "page/files/page.css"):
             self.assertTrue((self.target / "wfserve" / part).is_file(), part)
 
     def test_a_history_is_drawn_without_the_tree(self):

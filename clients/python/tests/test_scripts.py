@@ -1,4 +1,4 @@
-"""tools/timeline.py, ./serve, ./serve-http and ./try: what they draw, build and hand on. No proof is run: the toolchain and the
+"""tools/timeline.py, ./serve and ./try: what they draw, build and hand on. No proof is run: the toolchain and the
 build are stood in for by scripts that write down how they were called."""
 
 import json
@@ -116,7 +116,7 @@ class InAFolder(unittest.TestCase):
         self.top = pathlib.Path(folder.name)
         for name in ("tools", "bin", "crates/wfserve/src", "out/build/crates/wfserve/out"):
             (self.top / name).mkdir(parents=True)
-        for name in ("serve", "serve-http", "try"):
+        for name in ("serve", "try"):
             shutil.copy(ROOT / name, self.top / name)
         (self.top / "crates.txt").write_text("wfserve:\n")
         self.source = self.top / "crates/wfserve/src/main.rt"
@@ -185,72 +185,6 @@ class Help(unittest.TestCase):
         options = set(re.findall("--[a-z]+", has.stdout + has.stderr)) - {"--help", "--version"}
         self.assertGreater(len(options), 5)
         self.assertEqual(set(re.findall("--[a-z]+", said)), options)
-
-
-class ServeHttp(Serve):
-    """The same build, behind a Python that has aiohttp and says how the server was called."""
-
-    NAME = "serve-http"
-    ANSWERED = {"--version": "wfserve, sources of "}
-    # As the program: an empty script is served with status 0, and a call for help is refused.
-    SAYS = '[ $# -eq 0 ] || exit 2; cat'
-
-    def setUp(self):
-        super().setUp()
-        self.script(self.top / "bin/python3", f"""
-            case "$1" in
-            -c) exit 0 ;;
-            -m) shift 2; echo "server $*" ;;
-            *) exec {sys.executable} "$@" ;;
-            esac""")
-
-    def serve(self, *words, program=None):
-        named = {"WFSERVE": program} if program else {}
-        path = f"{self.top / 'bin'}:{os.environ['PATH']}"
-        kept = {name: value for name, value in os.environ.items() if name not in ("WFSERVE", "WFEDGE")}
-        ran = run([self.top / "serve-http", *words], cwd="/", env={**kept, "PATH": path, **named})
-        # That no edge is built is said each time.
-        ran.stderr = ran.stderr.replace("serve-http: by the Python server; edge/setup.sh builds a faster one\n", "")
-        return ran
-
-    def test_it_builds_what_is_missing_and_hands_on_all(self):
-        for said in ("building\n", ""):
-            ran = self.serve("--log", "a log")
-            self.assertEqual((ran.returncode, ran.stderr), (0, said))
-            self.assertEqual(ran.stdout, f"server --program {self.program.resolve()} --log a log\n")
-
-    def test_a_compiled_edge_is_taken_where_it_is_built(self):
-        edge = self.top / "edge/target/release/wfedge"
-        edge.parent.mkdir(parents=True)
-        self.script(edge, 'echo "edge $*"')
-        ran = self.serve("--log", "a log")
-        self.assertRegex(ran.stderr, "serve-http: by the compiled edge, .*/target/release/wfedge\n$")
-        page = f"--page {self.top.resolve() / 'edge/page.py'}"
-        self.assertRegex(ran.stdout, f"^edge --page [^ ]+ {page} --program {self.program.resolve()} --log a log\n$")
-        for words in (["--help"], ["--compact", "--log", "a log"]):
-            self.assertIn("server --program", self.serve(*words).stdout)
-
-    def test_what_the_compiled_edge_alone_can_do_is_refused_without_it(self):
-        for words, option in (
-            (["--log", "a log", "--standby", "yes"], "--standby"), (["--socket", "s"], "--socket"), (["--silence=9"], "--silence"),
-        ):
-            ran = self.serve(*words)
-            self.assertEqual((ran.returncode, ran.stdout), (2, ""))
-            self.assertEqual(ran.stderr, f"serve-http: {option} is an option of the compiled edge alone: edge/setup.sh builds it\n")
-        for words in (["--log", "postgres://h/d"], ["--port", "0", "--log=postgresql://h/d"]):
-            ran = self.serve(*words)
-            self.assertEqual((ran.returncode, ran.stdout), (2, ""))
-            self.assertIn("edge/setup.sh postgres builds it", ran.stderr)
-        words = ["--compact-bytes", "0", "--compact-seconds=5"]
-        self.assertEqual(self.serve(*words, program="p").stdout, f"server --program p {' '.join(words)}\n")
-        # They are words like others where another option has them.
-        self.assertEqual(self.serve("--queues", "a--standby", program="p").stdout, "server --program p --queues a--standby\n")
-        self.assertFalse(self.program.exists())
-
-    def test_another_program_and_a_call_for_help_build_nothing(self):
-        self.assertEqual(self.serve("--port", "0", program="other").stdout, "server --program other --port 0\n")
-        self.assertEqual(self.serve("--help").stdout, "server --program wfserve --help\n")
-        self.assertFalse(self.program.exists())
 
 
 class Build(unittest.TestCase):

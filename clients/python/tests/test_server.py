@@ -17,12 +17,12 @@ import unittest
 from concurrent.futures import ThreadPoolExecutor
 
 from support import CLIENT
-from support.programs import BUILT, COUNTING, SERVER, SERVER_PYTHON, memory_folder, needs_program, needs_server, program_file
+from support.programs import BUILT, COUNTING, memory_folder, needs_program, needs_server, program_file, server_words
 from support.served import PATIENCE, Server, until
 from examples import children
 from wfserve.errors import CallLost, NotServed, Refused
 from wfserve.ids import run_id, run_of_token
-from wfserve.server.listing import Workflows
+from wfserve.page.listing import Workflows
 from wfserve.workflows import Retry, Worker, input_of, seconds, workflow
 
 SEED = int(os.environ.get("WFSERVE_SEED", random.randrange(1 << 32)))
@@ -103,7 +103,7 @@ class Guarded(WithAServer):
         self.assertEqual(call(12), 200)
 
     def test_another_address_needs_a_token(self):
-        command = [SERVER_PYTHON, *SERVER, "--program", self.double(), "--port", "0"]
+        command = server_words(self.double(), "--port", "0")
         for options, said in (
             (["--host", "0.0.0.0"], "--host 0.0.0.0 needs a --token-file"),
             (["--token-file", self.token_file("short")], "less than 16 characters"),

@@ -4,8 +4,8 @@ import unittest
 
 import support
 from wfserve.ids import TaskKind, run_id, token_text
-from wfserve.server import attempts
-from wfserve.server.attempts import Attempts
+from wfserve.page import attempts
+from wfserve.page.attempts import Attempts
 
 support.add_paths()
 RUN = run_id(1, 2, 7)

@@ -7,7 +7,7 @@ import unittest
 from support.programs import needs_program, needs_server
 from test_server import WithAServer
 from wfserve.events import open_tasks
-from wfserve.server.backlog import LastPolls, queue_rows
+from wfserve.page.backlog import LastPolls, queue_rows
 from wfserve.workflows import Retry, Worker, attempt, hours, seconds, workflow
 
 

@@ -4,14 +4,14 @@ import json
 import resource
 import select
 import socket
-import subprocess
+import sys
 import threading
 import time
 import unittest
 import urllib.parse
 from concurrent.futures import ThreadPoolExecutor
 
-from support.programs import BUILT, SERVER, SERVER_PYTHON, needs_program, needs_server
+from support.programs import BUILT, needs_program, needs_server
 from support.served import PATIENCE, until
 from test_server import TOKEN, WithAServer, posted
 
@@ -139,8 +139,9 @@ class Answers(WithAServer):
             self.assertTrue(answer[1]["Content-Type"].startswith("application/json"))
 
     def test_a_fault_of_the_server_is_json_and_said(self):
+        """The page is a process of its own, and says its faults by the edge."""
         path = self.folder / "says too little"
-        path.write_text(f"#!{SERVER_PYTHON}\n{TOO_LITTLE}")
+        path.write_text(f"#!{sys.executable}\n{TOO_LITTLE}", encoding="utf-8")
         path.chmod(0o755)
         server = self.serve(program=str(path))
         status, _, text = server.asked("GET", "/workflows/w/00000000-0001-8000-8000-000000000001/picture.svg")
@@ -198,19 +199,6 @@ class Answers(WithAServer):
 @needs_server
 @needs_program
 class CompactedByCommand(WithAServer):
-    def test_a_log_that_is_not_served_is_compacted_by_a_command(self):
-        server = self.serve()
-        server.client().start("w", "T")
-        server.stop()
-        words = [SERVER_PYTHON, *SERVER, "--program", str(BUILT), "--compact"]
-        ran = subprocess.run([*words, "--log", str(self.log)], capture_output=True, text=True)
-        self.assertEqual((ran.returncode, ran.stderr), (0, ""))
-        self.assertRegex(ran.stdout, r"^\d+ lines?, \d+ bytes; now \d+ bytes of snapshots\n$")
-        server.start()
-        self.assertEqual([row["workflow_id"] for row in server.read("/api/workflows")["workflows"]], ["w"])
-        ran = subprocess.run(words, capture_output=True, text=True)
-        self.assertEqual((ran.returncode, ran.stderr), (2, "server: --compact needs a --log\n"))
-
     def test_a_compaction_is_finished_before_the_server_ends(self):
         path, goes_on = self.folder / "writes slowly", self.folder / "goes on"
         path.write_text(

@@ -5,18 +5,11 @@ import http.client
 import json
 import re
 import unittest
-from unittest import mock
 
 from support import ROOT
+from support.logs import write_log
 from support.programs import needs_program, needs_server
-from wfserve.durable import Settings
-from wfserve.durable.log import LineLog
-from wfserve.operations import KEYS, POLLS
-from wfserve.server.attempts import Attempts
-from wfserve.server.backlog import LastPolls
-from wfserve.server.calls import BadCall, Observers, call_of, is_deeper, request_of
-from wfserve.server.listing import Workflows
-from wfserve.server.turns import Deadlines
+from wfserve.operations import KEYS
 from test_server import WithAServer
 
 DEEP = "[" * 900 + "]" * 900
@@ -58,65 +51,6 @@ class Read(unittest.TestCase):
         found["signal_with_start"].discard("start")
         self.assertEqual(found, {op: set(keys) for op, keys in KEYS.items()})
 
-    def test_keys_that_an_operation_has_not_are_dropped(self):
-        for op, keys in KEYS.items():
-            said = {name: "x" for name in ("at", "lane", "barrier", "nothing", *set().union(*KEYS.values()))}
-            self.assertEqual(set(request_of(json.dumps({**said, "op": op}).encode())), {"op", *keys}, op)
-        self.assertEqual(request_of(b'{"op":[[]],"workflow_id":"w"}'), {"op": None})
-        self.assertEqual(request_of(b'{"op":"query","workflow_id":"w"}'), {"op": "query"})
-        for op in POLLS:
-            self.assertEqual(request_of(f'{{"op":"{op}","wait":5}}'.encode()), {"op": op, "wait": 5})
-
-    def test_what_lies_too_deep_is_no_call(self):
-        self.assertFalse(is_deeper({"commands": [{"retry": {"non_retryable": []}}]}, 4))
-        self.assertTrue(is_deeper({"commands": [{"retry": {"non_retryable": []}}]}, 2))
-        with self.assertRaisesRegex(BadCall, "20 deep"):
-            request_of(f'{{"op":"signal","name":{DEEP}}}'.encode())
-        self.assertEqual(request_of(f'{{"op":"signal","x":{DEEP}}}'.encode()), {"op": "signal"})
-
-    def test_blanks_around_a_body_are_no_part_of_it(self):
-        for before, after in (("", "\n"), (" \r\n\t", ""), ("\n", " \t")):
-            request, begin = call_of(f'{before}{{"op":"signal","name":"a"}}{after}'.encode())
-            self.assertEqual((request, begin.strip()), ({"op": "signal", "name": "a"}, b'{"op":"signal","name":"a"'))
-        for body in ('{"op":"signal"}{}', '{"op":"signal"} x', '{"op":"signal"}\u00a0', '\u000b{"op":"signal"}', " ", ""):
-            with self.assertRaisesRegex(BadCall, "no JSON"):
-                request_of(body.encode())
-
-    def test_who_names_operations_is_told_of_these_alone(self):
-        class Listener:
-            def __init__(self, *ops):
-                self.ops, self.told = frozenset(ops) or None, []
-
-            def observe(self, request, reply):
-                self.told.append(request["op"])
-
-        some, every = Listener("signal", "start"), Listener()
-        observers = Observers(some, every)
-        for op in ("signal", "query", None, "start", "heartbeat"):
-            observers.observe({"op": op}, {"ok": "none"})
-        self.assertEqual((some.told, every.told), (["signal", "start"], ["signal", "query", None, "start", "heartbeat"]))
-        self.assertTrue(Attempts.ops <= KEYS.keys() and LastPolls.ops == set(POLLS))
-
-    def test_an_observer_that_is_at_fault_is_said_and_stops_nobody(self):
-        class Faulty:
-            def observe(self, request, reply):
-                raise KeyError("a fault")
-
-        deadlines = Deadlines()
-        with self.assertLogs("wfserve.calls", "ERROR") as said:
-            Observers(Faulty(), deadlines).observe({"op": "start", "at": 5, "run_timeout": 7}, {"ok": "started", "line": 3})
-        self.assertIn("Faulty can't take in line 3 (start): KeyError: 'a fault'", said.output[0])
-        self.assertEqual(deadlines.next(0), 12)
-
-    def test_those_who_observe_take_any_request(self):
-        for poison in POISON[:-1]:
-            for op in KEYS:
-                for reply in ({"ok": "none"}, {"ok": "completed"}, {"ok": "accepted"}, {"ok": "signaled"}, {}):
-                    with mock.patch("wfserve.server.calls.LOG.exception") as said:
-                        request = {"op": op, **json.loads(f"{{{poison}}}")}
-                        Observers(Workflows(), Deadlines()).observe(request, {"line": 1, **reply})
-                    said.assert_not_called()
-
 
 @needs_server
 @needs_program
@@ -141,12 +75,11 @@ class Sent(WithAServer):
         self.assertEqual(server.said.read_text(), "")
 
     def test_a_log_with_lines_that_an_earlier_server_took_is_served(self):
-        log = LineLog(self.log)
-        log.append([Settings().header()])
-        for op in ("timer_turn", "dispatch_turn", "describe", "history"):
-            log.append([f'{{"op":"{op}","at":1,"shard":0,{poison}}}'.encode() for poison in POISON])
-        log.append([b'{"op":"start","at":1,"workflow_id":"w","workflow_type":"T","task_queue":"main"}'])
-        log.close()
+        lines = [
+            f'{{"op":"{op}","at":1,"shard":0,{poison}}}'.encode()
+            for op in ("timer_turn", "dispatch_turn", "describe", "history") for poison in POISON
+        ]
+        write_log(self.log, [*lines, b'{"op":"start","at":1,"workflow_id":"w","workflow_type":"T","task_queue":"main"}'])
         server = self.serve()
         self.assertEqual([row["workflow_id"] for row in server.read("/api/workflows")["workflows"]], ["w"])
 

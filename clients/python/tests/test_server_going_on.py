@@ -4,11 +4,10 @@ import threading
 import time
 import unittest
 
-from support.programs import BUILT, needs_program, needs_server
+from support.logs import Logged, write_log
+from support.programs import needs_program, needs_server
 from support.served import until
 from wfserve.calls import Clock
-from wfserve.durable import DurableService
-from wfserve.server.moments import Moments
 from wfserve.workflows import Worker, seconds, workflow
 from test_server import WithAServer
 
@@ -19,59 +18,6 @@ DAY = 86_400_000
 async def naps(ctx):
     await ctx.timer(seconds(1))
     return "awake"
-
-
-class Clocks(unittest.TestCase):
-    """The server's moments over a wall clock and a steady one that the test sets."""
-
-    def setUp(self):
-        self.wall, self.steady = 1_000_000, 500
-
-    def moments(self, last=0):
-        return Moments(last, lambda: self.wall, lambda: self.steady)
-
-    def wait(self, milliseconds):
-        self.wall += milliseconds
-        self.steady += milliseconds
-
-    def test_moments_are_the_wall_clocks(self):
-        moments = self.moments()
-        self.assertEqual(moments.now(), 1_000_000)
-        self.wait(7)
-        self.assertEqual((moments.now(), moments.ahead), (1_000_007, 0))
-
-    def test_time_goes_on_from_a_last_moment_that_is_ahead(self):
-        with self.assertLogs("wfserve.moments", "WARNING") as said:
-            moments = self.moments(last=1_000_000 + DAY)
-        self.assertIn("86400.0 s ahead of this machine's clock", said.output[0])
-        for _ in range(3):
-            before = moments.now()
-            self.wait(1_000)
-            self.assertEqual(moments.now(), before + 1_000)
-        self.assertEqual(moments.ahead, DAY)
-
-    def test_time_goes_on_where_the_wall_clock_is_set_back_and_follows_where_it_is_there_again(self):
-        moments = self.moments()
-        moments.now()
-        self.wall -= 3_600_000
-        with self.assertLogs("wfserve.moments", "WARNING") as said:
-            self.assertEqual(moments.now(), 1_000_000)
-        self.assertIn("was set back by 3600.0 s", said.output[0])
-        self.wait(10)
-        self.assertEqual((moments.now(), moments.ahead), (1_000_010, 3_600_000))
-        self.wall += 3_600_005
-        with self.assertLogs("wfserve.moments", "WARNING") as said:
-            self.assertEqual((moments.now(), moments.ahead), (1_000_015, 0))
-        self.assertIn("was set ahead by 3600.0 s", said.output[0])
-
-    def test_moments_never_go_back(self):
-        moments = self.moments()
-        found = []
-        for step in (5, -3, 0, -100, 40, 2):
-            self.wall += step
-            self.steady += 1
-            found.append(moments.now())
-        self.assertEqual(found, sorted(found))
 
 
 @needs_server
@@ -101,14 +47,14 @@ class GoingOn(WithAServer):
         self.assertFalse(server.read("/health/ready")["queue_full"])
 
     def test_what_was_not_handed_over_before_a_kill_is_so_after_it(self):
-        with DurableService([str(BUILT)], str(self.log), clock=Clock(int(time.time() * 1_000))) as service:
-            service.start("w", "naps")
+        start = {"op": "start", "workflow_id": "w", "workflow_type": "naps", "task_queue": "main"}
+        write_log(self.log, [{**start, "at": int(time.time() * 1_000)}])
         task = self.serve().client(wait=10_000).poll_workflow_task()
         self.assertEqual(task.workflow_id, "w")
 
     def test_timers_fire_after_a_call_while_the_clock_was_a_day_ahead(self):
         ahead = int(time.time() * 1_000) + DAY
-        with DurableService([str(BUILT)], str(self.log), clock=Clock(ahead)) as service:
+        with Logged(self.log, clock=Clock(ahead)) as service:
             service.start("before", "naps")
             service.compact()
         server, stop = self.serve(), threading.Event()

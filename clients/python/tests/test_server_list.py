@@ -11,13 +11,15 @@ import threading
 import time
 import unittest
 
+from support.logs import Logged, write_log
 from support.programs import BUILT, needs_program, needs_server
 from support.served import until
 from wfserve.calls import Clock
 from wfserve.durable import DurableService, Settings
+from wfserve.errors import Refused
 from wfserve.ids import run_id
-from wfserve.server.listing import Workflows, stuck_task
-from wfserve.server.records import Recorded
+from wfserve.page.listing import Workflows, stuck_task
+from wfserve.page.records import Recorded
 from wfserve.workflows import Driver, Worker, input_of, workflow
 from test_server import WithAServer
 
@@ -100,7 +102,8 @@ class InRecords(unittest.TestCase):
         print(f"\nruns of records: seed {SEED}", file=sys.stderr)
         draw = random.Random(SEED)
         with tempfile.TemporaryDirectory() as folder:
-            with DurableService([str(BUILT)], f"{folder}/a.log", Settings(shards=2, capacity=4), clock=Clock(1)) as service:
+            settings = Settings(shards=2, capacity=4)
+            with DurableService([str(BUILT)], f"{folder}/kept", settings, Clock(1), compaction=None) as service:
                 driver = Driver(service, 2)
                 for _ in range(300):
                     service.clock.advance(10)
@@ -214,14 +217,14 @@ class Lists(WithAServer):
         self.assertEqual([line for line in said if not line.endswith("steps restored")], [])
 
     def test_a_log_that_an_earlier_server_compacted_is_listed(self):
-        with DurableService([str(BUILT)], str(self.log), clock=Clock(1_000)) as service:
+        with Logged(self.log, clock=Clock(1_000)) as service:
             for number in range(30):
                 workflow_id, kind = f"w{number % 7}", "child" if number % 2 else "chain"
                 service.start(workflow_id, kind, conflict="TerminateExisting")
                 # This one begins no run, so it has no ordinal.
-                refused = {"op": "start", "workflow_id": workflow_id, "workflow_type": "no", "task_queue": "main"}
-                self.assertEqual(service.send(refused).result()["error"], "AlreadyStarted")
-            service.compact()
+                with self.assertRaisesRegex(Refused, "AlreadyStarted"):
+                    service.start(workflow_id, "no")
+            service.compact("--save")
         server = self.serve()
         rows = self.rows(server)
         self.assertEqual(len({(row["workflow_id"], row["run"]) for row in rows}), 30)
@@ -256,12 +259,10 @@ class Lists(WithAServer):
         self.assertNotIn("stuck", self.rows(server, "search=fine")[0])
 
     def test_a_status_is_found_after_many_others(self):
-        with DurableService([str(BUILT)], str(self.log), clock=Clock(int(time.time() * 1_000))) as service:
-            service.start("first", "child")
-            service.terminate("first")
-            asked = {"op": "start", "at": int(time.time() * 1_000), "workflow_type": "child", "task_queue": "main"}
-            for reply in [service.send({**asked, "workflow_id": f"w{number}"}) for number in range(500)]:
-                reply.result()
+        asked = {"op": "start", "at": int(time.time() * 1_000), "workflow_type": "child", "task_queue": "main"}
+        starts = [{**asked, "workflow_id": f"w{number}"} for number in range(500)]
+        ended = {"op": "terminate", "at": asked["at"], "workflow_id": "first"}
+        write_log(self.log, [{**asked, "workflow_id": "first"}, ended, *starts])
         server = self.serve()
         self.assertEqual(self.found(server, "status=Terminated"), [("first", "child", "Terminated")])
 

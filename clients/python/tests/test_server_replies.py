@@ -3,12 +3,11 @@
 WFSERVE_SEED draws other points, and WFSERVE_KILLS more of them.
 """
 
-import asyncio
 import http.client
 import json
 import os
-import pathlib
 import random
+import re
 import resource
 import signal
 import socket
@@ -19,11 +18,8 @@ import unittest
 from collections import Counter
 from concurrent.futures import ThreadPoolExecutor
 
-from support.core_fixture import OverALog
-from support.programs import COUNTING, needs_program, needs_server
-from wfserve.durable import Settings
-from wfserve.server.calls import BadCall, KeyReused, key_of
-from wfserve.server.replies import Replies, ended_line
+from support.programs import needs_program, needs_server
+from support.served import program_of
 from test_server import WithAServer
 
 SEED = int(os.environ.get("WFSERVE_SEED", random.randrange(1 << 32)))
@@ -32,120 +28,6 @@ CLIENTS = 8
 # No task's time is over, however long a server that is killed takes to be back.
 HOUR = 3_600_000
 JSON = {"Content-Type": "application/json"}
-
-
-class Kept(unittest.TestCase):
-    def test_the_last_replies_are_kept(self):
-        replies = Replies(most=3, most_bytes=100)
-        for number in range(5):
-            replies.add(f"k{number}", b"{", b"%d" % number)
-        self.assertEqual([replies.get(f"k{number}", b"{") for number in range(5)], [None, None, b"2", b"3", b"4"])
-        replies.add("long", b"{", b"x" * 99)
-        self.assertEqual((len(replies), replies.get("k4", b"{")), (2, b"4"))
-        replies.add("longer", b"{", b"x" * 101)
-        self.assertEqual(len(replies), 0)
-
-    def test_a_key_is_of_one_call(self):
-        replies = Replies()
-        replies.add("k", b'{"op":"signal","name":"a"', b"reply")
-        self.assertEqual(replies.get("k", b'{"op":"signal","name":"a"'), b"reply")
-        with self.assertRaises(KeyReused):
-            replies.get("k", b'{"op":"signal","name":"b"')
-
-    def test_keys_are_read_from_the_lines(self):
-        for key in ("k", "~!#[]", "x" * 200, "a,b}"):
-            replies, begin = Replies(), b'{"op":"signal","name":"\\"call\\":\\"z\\""'
-            replies.replayed(1, {"op": "signal"}, ended_line(begin, 7, key_of(key)), b"reply")
-            self.assertEqual(replies.get(key, begin), b"reply", key)
-        replies.replayed(2, {"op": "signal"}, ended_line(begin, 7, None), b"reply")
-        replies.replayed(3, {"op": "poll_activity_task"}, ended_line(begin, 7, "empty"), b'{"line":3,"ok":"empty"}')
-        self.assertEqual(len(replies), 1)
-        for wrong in ("", 'a"b', "a\\b", "a b", "ü", "x" * 201):
-            with self.assertRaises(BadCall):
-                key_of(wrong)
-
-
-class Joined(OverALog):
-    def test_a_call_on_its_way_is_made_once_and_answered_twice(self):
-        async def called():
-            async with self.served(COUNTING) as served:
-                asked = [served.submit("k", op="signal", name="slow") for _ in range(3)]
-                self.assertEqual(len(set(await asyncio.gather(*asked))), 1)
-                self.assertEqual(await served.submit("k", op="signal", name="slow"), asked[0].result())
-                with self.assertRaises(KeyReused):
-                    served.submit("k", op="signal", name="other")
-                self.assertEqual([b'"call":"k"' in line for line in served.lines()], [True, False])
-                # Reads change nothing, and are made anew.
-                first, second = [json.loads(await served.submit("r", op="describe", workflow_id=it)) for it in "ab"]
-                self.assertNotEqual(first["said"], second["said"])
-
-        asyncio.run(called())
-
-
-@needs_program
-class Again(OverALog):
-    def test_replies_are_had_again_after_a_restart(self):
-        calls = {
-            "start": {"op": "start", "workflow_id": "w", "workflow_type": "T", "task_queue": "main"},
-            "poll": {"op": "poll_workflow_task", "task_queue": "main", "wait": 60_000},
-            "refused": {"op": "signal", "workflow_id": "nobody", "name": "s"},
-            "signal": {"op": "signal", "workflow_id": "w", "name": "s"},
-        }
-
-        async def called(had):
-            async with self.served(settings=Settings(shards=2)) as served:
-                for key, call in calls.items():
-                    had.setdefault(key, []).append(await served.submit(key, **call))
-                task = json.loads(had["poll"][0])
-                done = {"op": "complete_workflow_task", "token": task["token"], "commands": []}
-                had.setdefault("done", []).append(await served.submit("done", **done))
-                return len(served.lines())
-
-        had = {}
-        counts = [asyncio.run(called(had)) for _ in range(2)]
-        self.assertEqual(counts[0], counts[1])
-        for key, (first, second) in had.items():
-            self.assertEqual(first, second, key)
-        said = [json.loads(had[key][0]).get("ok") for key in had]
-        self.assertEqual(said, ["started", "task", None, "signaled", "completed"])
-
-    def test_a_poll_that_waits_is_joined_by_its_key_or_made_anew(self):
-        async def called():
-            async with self.served() as served:
-                poll = {"op": "poll_workflow_task", "task_queue": "main", "wait": 60_000}
-                for key, looked_at in (("a", False), ("b", True)):
-                    hung_up = []
-                    gone = served.submit(key, is_gone=lambda: bool(hung_up), **poll)
-                    await served.idle()
-                    hung_up.append(True)
-                    if looked_at:
-                        served.core.end_polls()
-                        self.assertEqual(len(served.core.polls), 0)
-                    again = served.submit(key, **poll)
-                    await served.idle()
-                    await served.call(op="start", workflow_id=key, workflow_type="T", task_queue="main")
-                    task = json.loads(await asyncio.wait_for(again, 60))
-                    self.assertEqual((task["workflow_id"], gone.done()), (key, False))
-                gone = served.submit("c", **poll)
-                await served.idle()
-                joined = served.submit("c", **poll)
-                served.end_polls()
-                self.assertEqual(json.loads(await asyncio.wait_for(joined, 60))["ok"], "empty")
-                self.assertEqual(gone.result(), joined.result())
-                self.assertEqual(served.core._by_key, {})
-
-        asyncio.run(called())
-
-    def test_a_poll_that_found_nothing_is_made_anew(self):
-        async def called():
-            async with self.served() as served:
-                poll = {"op": "poll_workflow_task", "task_queue": "main", "wait": 0}
-                self.assertEqual((await served.call("p", **poll))["ok"], "empty")
-                await served.call(op="start", workflow_id="w", workflow_type="T", task_queue="main")
-                task = await served.call("p", **poll)
-                self.assertEqual((task["ok"], await served.call("p", **poll)), ("task", task))
-
-        asyncio.run(called())
 
 
 class Client:
@@ -220,13 +102,13 @@ class Disturbed(WithAServer):
                 server.kill()
                 server.start()
             elif kind == "program":
-                tell(child_of(server.process.pid), draw.choice([signal.SIGKILL, signal.SIGTERM]))
+                tell(program_of(server.process.pid), draw.choice([signal.SIGKILL, signal.SIGTERM]))
             elif kind == "disk":
                 limit_files(server.process.pid, self.log.stat().st_size + draw.randrange(2_000))
                 time.sleep(draw.random() / 5)
                 limit_files(server.process.pid, resource.RLIM_INFINITY)
             else:
-                hung = draw.choice([server.process.pid, child_of(server.process.pid)])
+                hung = draw.choice([server.process.pid, program_of(server.process.pid)])
                 tell(hung, signal.SIGSTOP)
                 time.sleep(draw.random() / 5)
                 tell(hung, signal.SIGCONT)
@@ -301,15 +183,6 @@ def limit_files(pid, size):
         pass
 
 
-def child_of(pid):
-    """The process that a process has started, or None."""
-    try:
-        found = pathlib.Path(f"/proc/{pid}/task/{pid}/children").read_text(encoding="utf-8").split()
-    except OSError:
-        return None
-    return int(found[0]) if found else None
-
-
 @needs_server
 class Sockets(WithAServer):
     """Requests that come in pieces, are cut off, or come too slowly."""
@@ -376,22 +249,46 @@ class Sockets(WithAServer):
         self.assertEqual((server.stop(), server.said.read_text()), (0, ""))
 
     def test_what_is_no_plain_call_is_answered_on_the_same_connection(self):
+        """After a body in chunks the edge closes the connection: what is in front of it may have read another length."""
         server = self.serve(program=self.double())
+        body = self.request("in chunks", "c").split(b"\r\n\r\n", 1)[1]
+        head = b"POST /calls HTTP/1.1\r\nHost: 127.0.0.1\r\nContent-Type: application/json\r\n"
         with socket.create_connection((server.host, server.port), timeout=60) as connection:
             connection.sendall(self.request("first", "a"))
             self.assertEqual(self.answered(connection)[0], 200)
-            body = self.request("in chunks", "c").split(b"\r\n\r\n", 1)[1]
-            head = b"POST /calls HTTP/1.1\r\nHost: 127.0.0.1\r\nContent-Type: application/json\r\n"
-            connection.sendall(head + b"Transfer-Encoding: chunked\r\n\r\n%x\r\n%s\r\n0\r\n\r\n" % (len(body), body))
-            self.assertEqual(self.answered(connection)[0], 200)
             connection.sendall(b"GET /health/live HTTP/1.1\r\nHost: 127.0.0.1\r\n\r\n")
             self.assertEqual(json.loads(self.answered(connection)[1]), {"status": "live"})
-            connection.sendall(self.request("last", "d"))
+            connection.sendall(head + b"Transfer-Encoding: chunked\r\n\r\n%x\r\n%s\r\n0\r\n\r\n" % (len(body), body))
             self.assertEqual(self.answered(connection)[0], 200)
-        both = self.request("x").replace(b"Content-Length", b"Transfer-Encoding: chunked\r\nContent-Length")
-        with socket.create_connection((server.host, server.port), timeout=60) as connection:
-            connection.sendall(both)
-            self.assertEqual(self.answered(connection)[0], 400)
+            self.assertEqual(connection.recv(1), b"")
+        # Of two lengths the one in chunks counts, and nothing follows it on that connection.
+        for lengths, status in (
+            (b"Content-Length: 9\r\nTransfer-Encoding: chunked", 400), (b"Transfer-Encoding: chunked\r\nContent-Length: 9", 200),
+        ):
+            sent = head + lengths + b"\r\n\r\n%x\r\n%s\r\n0\r\n\r\n" % (len(body), body)
+            with socket.create_connection((server.host, server.port), timeout=60) as connection:
+                connection.sendall(sent + self.request("smuggled"))
+                self.assertEqual((self.answered(connection)[0], connection.recv(1)), (status, b""))
+            # What is not in chunks is no body: the connection ends, with a word or without.
+            with socket.create_connection((server.host, server.port), timeout=60) as connection:
+                connection.sendall(head + lengths + b"\r\n\r\n" + body)
+                self.assertIn(self.answered(connection)[0], (0, 400))
+        self.assertEqual((self.log.read_bytes().count(b'"name"'), self.log.read_bytes().count(b"smuggled")), (3, 0))
+
+    def test_a_call_in_two_pieces_is_answered_as_a_whole_one(self):
+        """Whether the second piece comes at once, or so late that hyper waits for it."""
+        server, heads = self.serve(program=self.double()), set()
+        for pause in (0, 0.2):
+            with socket.create_connection((server.host, server.port), timeout=60) as connection:
+                for number, cut in enumerate((1, 30, -5, 1_000)):
+                    request, answer = self.request(f"piece {number}", f"k{number}-{pause}"), b""
+                    connection.sendall(request[:cut])
+                    time.sleep(pause)
+                    connection.sendall(request[cut:])
+                    while not answer.endswith(b"}"):
+                        answer += connection.recv(4_096)
+                    heads.add(re.sub(rb"(length|date): [^\r]*", rb"\1", answer.partition(b"\r\n\r\n")[0]))
+        self.assertEqual((len(heads), self.log.read_bytes().count(b'"piece ')), (1, 8), heads)
 
     def test_keys_over_http(self):
         server = self.serve(program=self.double())

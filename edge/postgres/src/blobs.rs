@@ -3,7 +3,7 @@
 use crate::connection::{Connection, Result};
 use std::sync::{Mutex, PoisonError};
 use std::time::{Duration, UNIX_EPOCH};
-use wfedge::blobs::{checked, Store};
+use wfedge::log::blobs::{checked, Store};
 
 const TABLE: &str = "
     begin;

@@ -1,12 +1,12 @@
 //! A connection to PostgreSQL, each of whose questions has a limit on its time.
 
-use crate::tls::Asked;
+use crate::tls::TlsOptions;
 use std::time::Duration;
 use tokio::runtime::{Builder, Runtime};
 use tokio_postgres::error::SqlState;
 use tokio_postgres::types::ToSql;
 use tokio_postgres::{Client, Config, Row, Statement};
-use wfedge::log_fault::LogFault;
+use wfedge::log::fault::LogFault;
 
 /// Beyond this what became of a question is not known, as where a network is cut.
 const LONGEST: Duration = Duration::from_secs(10);
@@ -32,7 +32,7 @@ fn fault_of(fault: tokio_postgres::Error) -> LogFault {
 impl Connection {
     /// Connects to the database of an address, by TLS as it asks. A password that it doesn't have is the one of PGPASSWORD.
     pub fn new(address: &str) -> Result<Connection> {
-        let asked = Asked::of(address)?;
+        let asked = TlsOptions::parse(address)?;
         let tls = asked.tls()?;
         let mut config: Config = asked.address.parse().map_err(fault_of)?;
         config.ssl_mode(asked.mode);

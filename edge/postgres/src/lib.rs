@@ -7,9 +7,9 @@ mod planted;
 mod table;
 mod tls;
 
-use wfedge::table::Client;
+use wfedge::log::table::Client;
 
 /// Serves by the words of the command line. The status with which the process ends.
-pub fn run() -> i32 {
+pub fn run() -> std::process::ExitCode {
     wfedge::run(std::env::args().skip(1), Some(Client { table: table::open, blobs: blobs::open }))
 }

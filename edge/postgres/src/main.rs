@@ -1,5 +1,5 @@
 //! `wfedge` with a client of PostgreSQL.
 
-fn main() {
-    std::process::exit(wfedge_postgres::run());
+fn main() -> std::process::ExitCode {
+    wfedge_postgres::run()
 }

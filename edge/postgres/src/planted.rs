@@ -10,7 +10,7 @@ pub use nothing::Planted;
 #[cfg(not(feature = "planted"))]
 mod nothing {
     use crate::connection::Result;
-    use wfedge::table::Batch;
+    use wfedge::log::table::Batch;
 
     /// No fault.
     pub struct Planted;
@@ -33,7 +33,7 @@ mod late {
     use crate::table::APPEND;
     use std::sync::mpsc::{channel, Sender};
     use std::time::Duration;
-    use wfedge::table::Batch;
+    use wfedge::log::table::Batch;
 
     /// Batches on their way to the database.
     pub struct Planted(Sender<(i64, Batch)>);

@@ -12,13 +12,13 @@
 
 use crate::connection::{Connection, Result, Values};
 use crate::planted::Planted;
-use std::sync::atomic::{AtomicBool, Ordering::SeqCst};
+use std::sync::atomic::{AtomicBool, Ordering};
 use std::sync::Arc;
 use std::time::Duration;
 use tokio_postgres::{Row, Statement};
-use wfedge::log_fault::LogFault;
-use wfedge::say::line as say_line;
-use wfedge::table::{Batch, Piece, PiecePlace, Pieces, Start, Table};
+use wfedge::log::fault::LogFault;
+use wfedge::log::table::{Batch, Piece, PiecePlace, Pieces, Start, Table};
+use wfedge::os::stderr;
 
 const TABLES: &str = "
     begin;
@@ -86,7 +86,7 @@ const FORGET: [&str; 3] = [
 ];
 
 /// What is asked often.
-struct Asked {
+struct Statements {
     read: Statement,
     tell: Statement,
     try_lock: Statement,
@@ -100,13 +100,13 @@ struct Asked {
 /// A table by its connection.
 struct Postgres {
     connection: Connection,
-    asked: Asked,
+    statements: Statements,
     name: String,
     silence: i64,
     epoch: i64,
     /// By what a leader says that it leads: a connection of its own, which is there before it does.
     beat: Option<(Connection, Statement)>,
-    /// Whether nobody hears any more that this edge leads.
+    /// Whether nobody hears any more that this edge leads. It makes an end come sooner: the epoch is what refuses.
     is_unheard: Arc<AtomicBool>,
     planted: Planted,
     address: String,
@@ -116,7 +116,7 @@ struct Postgres {
 pub fn open(address: &str, silence: u64) -> Result<Box<dyn Table>> {
     let connection = Connection::new(address)?;
     make_tables(&connection)?;
-    let asked = Asked {
+    let statements = Statements {
         read: connection.prepare(READ)?,
         tell: connection.prepare(TELL)?,
         try_lock: connection.prepare(TRY)?,
@@ -132,7 +132,7 @@ pub fn open(address: &str, silence: u64) -> Result<Box<dyn Table>> {
     Ok(Box::new(Postgres {
         planted: Planted::new(address)?,
         connection,
-        asked,
+        statements,
         name: name(),
         silence,
         epoch: 0,
@@ -181,8 +181,8 @@ impl Postgres {
                 Ok(1) => {}
                 other => {
                     let why = other.err().map_or_else(|| "another edge leads".to_string(), |fault| fault.to_string());
-                    say_line(format_args!("nobody hears any more that this edge leads: {why}"));
-                    is_unheard.store(true, SeqCst);
+                    stderr::line(format_args!("nobody hears any more that this edge leads: {why}"));
+                    is_unheard.store(true, Ordering::Relaxed);
                     return;
                 }
             }
@@ -197,20 +197,20 @@ impl Table for Postgres {
     }
 
     fn read(&mut self, after: u64, most: u32) -> Result<Vec<Batch>> {
-        let rows = self.connection.rows(&self.asked.read, &[&(after as i64), &i64::from(most)])?;
+        let rows = self.connection.rows(&self.statements.read, &[&(after as i64), &i64::from(most)])?;
         let number = |row: &Row, place: usize| row.get::<_, i64>(place) as u64;
         let batch = |row: &Row| Batch { number: number(row, 0), lines: row.get(1), generation: number(row, 2) };
         Ok(rows.iter().map(batch).collect())
     }
 
     fn tell(&mut self, number: u64) -> Result<()> {
-        self.connection.change(&self.asked.tell, &[&self.name, &(number as i64)]).map(drop)
+        self.connection.change(&self.statements.tell, &[&self.name, &(number as i64)]).map(drop)
     }
 
     fn try_lead(&mut self) -> Result<bool> {
-        let found = self.connection.rows(&self.asked.try_lock, &[])?;
+        let found = self.connection.rows(&self.statements.try_lock, &[])?;
         if !found.first().map_or(false, |row| row.try_get(0).unwrap_or(false)) {
-            self.connection.rows(&self.asked.end_silent, &[&self.silence])?;
+            self.connection.rows(&self.statements.end_silent, &[&self.silence])?;
             return Ok(false);
         }
         self.epoch = self.connection.row(LEAD, &[&self.name, &self.silence])?.get(0);
@@ -227,15 +227,15 @@ impl Table for Postgres {
             return Ok(());
         }
         let number = batch.number as i64;
-        match self.connection.change(&self.asked.append, &[&self.epoch, &number, &batch.lines])? {
-            1 if !self.is_unheard.load(SeqCst) => Ok(()),
+        match self.connection.change(&self.statements.append, &[&self.epoch, &number, &batch.lines])? {
+            1 if !self.is_unheard.load(Ordering::Relaxed) => Ok(()),
             _ => Err(self.ousted()),
         }
     }
 
     fn confirm(&mut self) -> Result<()> {
-        let found = self.connection.rows(&self.asked.confirm, &[&self.epoch])?;
-        if found.is_empty() || self.is_unheard.load(SeqCst) {
+        let found = self.connection.rows(&self.statements.confirm, &[&self.epoch])?;
+        if found.is_empty() || self.is_unheard.load(Ordering::Relaxed) {
             return Err(self.ousted());
         }
         Ok(())
@@ -251,10 +251,10 @@ impl Table for Postgres {
     }
 
     fn piece(&mut self, generation: u64, number: u64) -> Result<Option<Piece>> {
-        if self.asked.piece.is_none() {
-            self.asked.piece = Some(self.connection.prepare(PIECE)?);
+        if self.statements.piece.is_none() {
+            self.statements.piece = Some(self.connection.prepare(PIECE)?);
         }
-        let piece = match &self.asked.piece {
+        let piece = match &self.statements.piece {
             Some(piece) => piece,
             None => return Ok(None),
         };
@@ -283,7 +283,7 @@ impl Table for Postgres {
         let (batch, generation, number) = (header.number as i64, header.generation as i64, number as i64);
         let values: Values<'_> = &[&self.epoch, &batch, &header.lines, &generation, &number, &piece.name, &piece.data];
         match self.connection.change(&compact, values)? {
-            1 if !self.is_unheard.load(SeqCst) => Ok(()),
+            1 if !self.is_unheard.load(Ordering::Relaxed) => Ok(()),
             _ => Err(self.ousted()),
         }
     }
@@ -292,7 +292,7 @@ impl Table for Postgres {
         let address = self.address.clone();
         std::thread::spawn(move || {
             if let Err(fault) = forget_all(&address) {
-                say_line(format_args!("what a compaction left stays for now: {fault}"));
+                stderr::line(format_args!("what a compaction left stays for now: {fault}"));
             }
         });
     }

@@ -14,7 +14,7 @@ use std::task::{Context, Poll};
 use tokio::io::{AsyncRead, AsyncWrite, ReadBuf};
 use tokio_postgres::config::SslMode;
 use tokio_postgres::tls::{ChannelBinding, MakeTlsConnect, TlsConnect, TlsStream};
-use wfedge::log_fault::LogFault;
+use wfedge::log::fault::LogFault;
 
 const END: &str = "-----END CERTIFICATE-----";
 
@@ -28,7 +28,7 @@ enum Looks {
 
 /// What an address asks for.
 #[derive(Debug)]
-pub struct Asked {
+pub struct TlsOptions {
     /// The address without that.
     pub address: String,
     pub mode: SslMode,
@@ -40,9 +40,9 @@ fn wrong(said: String) -> LogFault {
     LogFault::Other(format!("the database's address: {said}"))
 }
 
-impl Asked {
+impl TlsOptions {
     /// Reads an address.
-    pub fn of(address: &str) -> Result<Asked> {
+    pub fn parse(address: &str) -> Result<TlsOptions> {
         let (place, query) = address.split_once('?').unwrap_or((address, ""));
         let (mut named, mut roots, mut rest) = ("prefer".to_string(), None, Vec::new());
         for pair in query.split('&').filter(|pair| !pair.is_empty()) {
@@ -64,7 +64,7 @@ impl Asked {
             }
         };
         let query = if rest.is_empty() { String::new() } else { format!("?{}", rest.join("&")) };
-        Ok(Asked { address: format!("{place}{query}"), mode, looks, roots })
+        Ok(TlsOptions { address: format!("{place}{query}"), mode, looks, roots })
     }
 
     /// What makes the handshakes.
@@ -186,7 +186,7 @@ mod tests {
             ("?sslmode=verify-ca", "", SslMode::Require, Looks::Signature),
             ("?sslmode=verify-full", "", SslMode::Require, Looks::SignatureAndHost),
         ] {
-            let asked = Asked::of(&format!("postgres://wf@db/orders{query}")).unwrap();
+            let asked = TlsOptions::parse(&format!("postgres://wf@db/orders{query}")).unwrap();
             assert_eq!((asked.mode, asked.looks), (mode, looks), "{query}");
             assert_eq!(asked.address, format!("postgres://wf@db/orders{address}"));
             assert_eq!(asked.roots, query.contains("sslrootcert").then(|| "/x y".to_string()));
@@ -196,7 +196,7 @@ mod tests {
     #[test]
     fn what_can_not_be_had_is_refused_by_name() {
         let said = |query: &str| {
-            let asked = Asked::of(&format!("postgres://wf@db/orders?{query}"));
+            let asked = TlsOptions::parse(&format!("postgres://wf@db/orders?{query}"));
             asked.and_then(|asked| asked.tls().map(drop)).unwrap_err().to_string()
         };
         assert!(said("sslmode=allow").contains("and not allow"));

@@ -1,8 +1,8 @@
 //! The turns that time asks for: timers fire, and a sweep finds what no call and no reply told of. Polls end here too.
 
 use super::Core;
-use crate::ledger::Ledger;
-use crate::shards::Shard;
+use crate::turns::ledger::Ledger;
+use crate::turns::shards::Shard;
 use std::collections::BTreeSet;
 use std::sync::{Arc, PoisonError};
 use std::time::{Duration, Instant};
@@ -30,17 +30,17 @@ impl Core {
         loop {
             let rest = self.turn(&mut looked);
             let mut state = self.lock();
-            if state.flags.is_closed || state.over.is_some() {
+            if state.phase.is_at_its_end() {
                 return;
             }
             if state.is_old(Instant::now()) {
-                state.flags.is_compacting = true;
+                state.compaction.begin();
                 drop(state);
                 self.compact_long();
                 continue;
             }
-            if !state.look {
-                let waited = self.clock.wait_timeout(state, rest);
+            if !state.due.look {
+                let waited = self.clock_wake.wait_timeout(state, rest);
                 drop(waited.unwrap_or_else(PoisonError::into_inner));
             }
         }
@@ -50,15 +50,15 @@ impl Core {
     fn turn(&self, looked: &mut Looked) -> Duration {
         let (at, now) = (self.now(), Instant::now());
         let mut state = self.lock();
-        state.look = false;
+        state.due.look = false;
         state.end_polls(now);
         let mut due: BTreeSet<Shard> = state.deadlines.pass_by(at);
         if at >= looked.at + SECOND {
-            due = (0..self.shards).collect();
+            due = self.shards.all().collect();
             looked.at = at;
         }
         state.ask_turns(Ledger::timers(due));
-        if state.called && now >= looked.next_sweep.max(state.resting) {
+        if state.due.called && now >= looked.next_sweep.max(state.due.resting) {
             let missed = state.ledger.missed();
             looked.between = match missed > looked.missed {
                 true => FIRST_SWEEP,
@@ -66,13 +66,13 @@ impl Core {
             };
             looked.missed = missed;
             looked.next_sweep = now + looked.between;
-            state.called = false;
+            state.due.called = false;
             let sweep = state.ledger.sweep();
             state.ask_turns(sweep);
         }
         let due = state.deadlines.next().map_or(SECOND, |next| next.saturating_sub(at));
         let rest = Duration::from_millis(due.min(looked.at + SECOND - at));
-        let polls = state.next_late.map_or(rest, |late| late.saturating_duration_since(now) + TICK);
+        let polls = state.due.next_late.map_or(rest, |late| late.saturating_duration_since(now) + TICK);
         self.release(state);
         rest.min(polls)
     }

@@ -1,18 +1,18 @@
 //! Goes through replies in their order: what follows is asked, and calls are answered.
 
 use super::endings::Endings;
-use super::state::{Answered, Said, State};
+use super::state::{Answered, ReplyFacts, State};
 use super::{Core, Input};
+use crate::call::fault::Fault;
+use crate::call::operations::Op;
+use crate::call::reply::Reply;
+use crate::call::texts::Texts;
 use crate::call::Call;
-use crate::fault::Fault;
-use crate::kept::{start_again, NotServed};
-use crate::log_fault::LogFault;
-use crate::operations::Op;
-use crate::polls::Queue;
-use crate::program::{Output, Program};
-use crate::reply::Reply;
-use crate::say::say;
-use crate::texts::Texts;
+use crate::log::fault::LogFault;
+use crate::log::kept::{start_again, NotServed};
+use crate::os::program::{Output, Program};
+use crate::os::stderr::report;
+use crate::turns::polls::Queue;
 use hyper::body::Bytes;
 use std::collections::VecDeque;
 use std::io::Write;
@@ -49,9 +49,9 @@ enum Polled {
     Refused,
 }
 
-impl Polled {
-    fn of(said: &Reply<'_>) -> Polled {
-        match said.ok.as_deref() {
+impl From<&Reply<'_>> for Polled {
+    fn from(reply: &Reply<'_>) -> Polled {
+        match reply.ok.as_deref() {
             Some("task") => Polled::Task,
             Some("stale") => Polled::Stale,
             Some("empty") => Polled::Empty,
@@ -88,19 +88,19 @@ impl Core {
     fn take_replies(&self, program: &mut Program) -> Result<Option<Program>, Fault> {
         let count = program.output.count(MOST_AT_ONCE);
         let mut state = self.lock();
-        if let Some(next) = state.next_program.take() {
+        if let Some(next) = state.in_flight.next_program.take() {
             drop(state);
             self.wake.notify_all();
             return Ok(Some(next));
         }
-        let mut calls = state.taken(count);
+        let mut calls = state.in_flight.take(count);
         drop(state);
         let (replies, result) = replies_of(&mut program.output, &calls);
         let left = calls.split_off(replies.len());
         let mut state = self.lock();
-        state.give_back(left.into_iter());
+        state.in_flight.give_back(left.into_iter());
         let gone_through = state.go_through(calls.into_iter().zip(replies), self.limit);
-        state.flags.is_taking = false;
+        state.in_flight.end_taking();
         self.release(state);
         result.and(gone_through).map(|()| None)
     }
@@ -117,12 +117,12 @@ impl Core {
                 if program.was_told_to_end() {
                     std::thread::sleep(PAUSE);
                 }
-                let number = self.lock().answered + 1;
+                let number = self.lock().in_flight.answered + 1;
                 let asked = self.lock().starts_again();
                 if let Some(asked) = asked {
                     // What it said last may come late: the next program is not kept waiting for it.
                     std::thread::spawn(move || {
-                        say!("{}{asked}: it is started again, and given the log's lines", program.ended(number));
+                        report!("{}{asked}: it is started again, and given the log's lines", program.ended(number));
                     });
                     return self.started_again();
                 }
@@ -137,10 +137,10 @@ impl Core {
     fn started_again(self: &Arc<Core>) -> Option<Program> {
         let (origin, answered) = {
             let state = self.lock();
-            (state.origin.clone(), state.answered)
+            (state.origin.clone(), state.in_flight.answered)
         };
         if let Some(next) = self.taken_from_standby(&origin, answered) {
-            self.lock().endings.follow();
+            self.lock().in_flight.endings.follow();
             return Some(self.go_on_with(next));
         }
         for tried in 1.. {
@@ -148,7 +148,7 @@ impl Core {
                 Ok(next) => return Some(self.go_on_with(next)),
                 // It had been opened so before, and had served these lines, so they are not why.
                 Err(fault) if tried < MOST_STARTS && is_of_the_program(&fault) => {
-                    say!("{fault}: it is started once more");
+                    report!("{fault}: it is started once more");
                 }
                 Err(fault) => {
                     self.end(Fault::Ended(fault.to_string()));
@@ -162,14 +162,16 @@ impl Core {
     /// What takes the place of a program that has ended.
     fn exchanged(&self) -> Next {
         let mut state = self.lock();
-        while state.flags.is_exchanging && state.over.is_none() && !state.flags.is_closed {
+        while state.compaction.is_exchanging() && !state.phase.is_at_its_end() {
             state = self.wake.wait(state).unwrap_or_else(PoisonError::into_inner);
         }
-        if state.flags.is_closed || state.over.is_some() {
+        if state.phase.is_at_its_end() {
             return Next::Nothing;
         }
-        let next = state.next_program.take();
-        state.flags.is_restarting = next.is_none();
+        let next = state.in_flight.next_program.take();
+        if next.is_none() {
+            state.in_flight.restart();
+        }
         drop(state);
         self.wake.notify_all();
         next.map_or(Next::Again, Next::Opened)
@@ -180,11 +182,9 @@ impl Core {
     fn go_on_with(self: &Arc<Core>, mut program: Program) -> Program {
         let pipe = program.take_input();
         let mut state = self.lock();
-        state.generation += 1;
-        state.pid = program.pid();
-        let generation = state.generation;
+        let generation = state.in_flight.feed(program.pid());
         let mut lines = Vec::new();
-        for call in &state.sent {
+        for call in &state.in_flight.sent {
             lines.extend_from_slice(&call.text);
             lines.push(b'\n');
         }
@@ -206,7 +206,7 @@ impl Core {
         let _ = input.pipe.as_mut().map(|pipe| pipe.write_all(lines));
         drop(input);
         self.end_input_if_closed();
-        self.lock().flags.is_restarting = false;
+        self.lock().in_flight.go_on();
         self.wake.notify_all();
     }
 }
@@ -242,30 +242,6 @@ fn let_go(mut program: Program) {
 }
 
 impl State {
-    /// What the program was asked, which has ended, where another one takes its place.
-    fn starts_again(&mut self) -> Option<String> {
-        let is_done = self.flags.is_closing && self.count == 0;
-        if self.log.is_broken || is_done || !self.endings.go_on(!self.sent.is_empty()) {
-            return None;
-        }
-        self.metrics.restarts += 1;
-        Some(self.sent.front().map_or_else(String::new, |call| format!(" ({})", call.named())))
-    }
-
-    /// Takes so many calls off those that the program has.
-    fn taken(&mut self, most: usize) -> VecDeque<Call> {
-        self.flags.is_taking = true;
-        let count = most.min(self.sent.len());
-        self.sent.drain(..count).collect()
-    }
-
-    /// Puts calls back that were not answered.
-    fn give_back(&mut self, calls: impl DoubleEndedIterator<Item = Call>) {
-        for call in calls.rev() {
-            self.sent.push_front(call);
-        }
-    }
-
     fn go_through(
         &mut self,
         mut replies: impl DoubleEndedIterator<Item = (Call, Bytes)> + ExactSizeIterator,
@@ -274,18 +250,18 @@ impl State {
         let (now, mut handed) = (Instant::now(), 0);
         while let Some((call, text)) = replies.next() {
             let number = call.number;
-            self.endings = Endings::default();
+            self.in_flight.endings = Endings::default();
             if call.is_logged() {
-                self.window.note(number, &text);
+                self.compaction.window.note(number, &text);
             }
             match self.take_reply(call, text, limit, now) {
                 Ok(count) => handed += count,
                 Err(call) => {
-                    self.give_back(std::iter::once(*call).chain(replies.map(|(call, _)| call)));
+                    self.in_flight.give_back(std::iter::once(*call).chain(replies.map(|(call, _)| call)));
                     return Err(Fault::Ended(format!("line {number}: its reply is no JSON")));
                 }
             }
-            self.answered = number;
+            self.in_flight.answered = number;
         }
         if handed > 0 {
             self.wake_polls(handed);
@@ -296,22 +272,23 @@ impl State {
     /// Takes one reply. How many tasks it says were handed over; the call again where the reply can't be read.
     fn take_reply(&mut self, call: Call, text: Bytes, limit: usize, now: Instant) -> Result<usize, Box<Call>> {
         if !call.is_logged() {
-            let said = Said { error: error_in(&text), has_task: false };
-            self.answer_when_synced(Answered { call, reply: text, said }, now);
+            let facts = ReplyFacts { error: error_in(&text), has_task: false };
+            self.answer_when_synced(Answered { call, reply: text, facts }, now);
             return Ok(0);
         }
-        let told = match Reply::of(&text) {
-            Some(told) => told,
+        let reply = match Reply::parse(&text) {
+            Some(reply) => reply,
             None => return Err(Box::new(call)),
         };
-        self.observe(&call, &told);
-        let handed = self.follow(&call, &told);
+        self.observe(&call, &reply);
+        let handed = self.follow(&call, &reply);
         if call.turn().is_some() {
             return Ok(handed);
         }
-        let polled = call.op().is_poll().then(|| Polled::of(&told));
-        let said = Said { error: told.error.as_deref().map(Into::into), has_task: polled == Some(Polled::Task) };
-        let answered = Answered { call, reply: text, said };
+        let polled = call.op().is_poll().then(|| Polled::from(&reply));
+        let facts =
+            ReplyFacts { error: reply.error.as_deref().map(Into::into), has_task: polled == Some(Polled::Task) };
+        let answered = Answered { call, reply: text, facts };
         match polled {
             Some(polled) => self.take_poll(answered, polled, limit, now),
             None => self.answer_when_synced(answered, now),
@@ -320,29 +297,29 @@ impl State {
     }
 
     /// Notes what a line and its reply tell of deadlines and of the list of workflows.
-    fn observe(&mut self, call: &Call, said: &Reply<'_>) {
-        if self.deadlines.observe(&call.facts, call.at, said) {
-            self.look = true;
+    fn observe(&mut self, call: &Call, reply: &Reply<'_>) {
+        if self.deadlines.observe(&call.facts, call.at, reply) {
+            self.due.look = true;
         }
         if let Some(changes) = &mut self.changes {
-            changes.observe(&call.facts, &call.text, call.at, said);
+            changes.observe(&call.facts, &call.text, call.at, reply);
         }
     }
 
     /// Asks the turns that follow a turn. How many tasks it handed over.
-    fn follow(&mut self, call: &Call, said: &Reply<'_>) -> usize {
+    fn follow(&mut self, call: &Call, reply: &Reply<'_>) -> usize {
         if !call.op().is_turn() {
             return 0;
         }
         let turns = match call.turn() {
-            Some(turn) => self.ledger.follow(turn, said),
-            None => self.ledger.follow_clients(&call.facts, said),
+            Some(turn) => self.ledger.follow(turn, reply),
+            None => self.ledger.follow_clients(&call.facts, reply),
         };
-        let handed = call.op() == Op::DispatchTurn && (said.is("dispatched") || said.is("pushed"));
+        let handed = call.op() == Op::DispatchTurn && (reply.is("dispatched") || reply.is("pushed"));
         if call.turn().is_some() {
             self.metrics.note_turn(call.op(), handed || !turns.is_empty());
         }
-        self.own.extend(turns);
+        self.admission.own.extend(turns);
         usize::from(handed)
     }
 
@@ -350,18 +327,18 @@ impl State {
     fn take_poll(&mut self, mut answered: Answered, polled: Polled, limit: usize, now: Instant) {
         if matches!(polled, Polled::Task | Polled::Stale) {
             let turns = self.ledger.made_room();
-            self.own.extend(turns);
+            self.admission.own.extend(turns);
         }
-        if polled == Polled::Stale && !self.flags.is_closing && !self.is_gone(&answered.call) {
-            self.asked.push_front(answered.call);
+        if polled == Polled::Stale && !self.phase.is_closing() && !self.is_gone(&answered.call) {
+            self.admission.asked.push_front(answered.call);
             return;
         }
         if polled == Polled::Empty {
-            let queue = Queue::of(&answered.call);
-            if let Some(task) = self.polls.left_for(&queue) {
+            let queue = Queue::from(&answered.call);
+            if let Some(task) = self.admission.polls.left_for(&queue) {
                 answered.reply = task;
-                answered.said.has_task = true;
-            } else if !self.flags.is_closing && !self.is_late(&answered.call) {
+                answered.facts.has_task = true;
+            } else if !self.phase.is_closing() && !self.is_late(&answered.call) {
                 self.wait(answered.call, answered.reply, limit);
                 return;
             }
@@ -370,16 +347,16 @@ impl State {
     }
 
     fn answer_when_synced(&mut self, answered: Answered, now: Instant) {
-        if answered.call.number <= self.synced {
+        if answered.call.number <= self.in_flight.synced {
             self.let_go(answered, now);
         } else {
-            self.unsynced.push_back(answered);
+            self.in_flight.unsynced.push_back(answered);
         }
     }
 }
 
 /// The refusal that a read's reply is. A reply that is none is long, and not looked into.
 fn error_in(text: &[u8]) -> Option<Box<str>> {
-    let refusal = if text.starts_with(b"{\"error\"") { Reply::of(text) } else { None };
-    refusal.and_then(|told| told.error).map(|error| error.as_ref().into())
+    let refusal = if text.starts_with(b"{\"error\"") { Reply::parse(text) } else { None };
+    refusal.and_then(|reply| reply.error).map(|error| error.as_ref().into())
 }

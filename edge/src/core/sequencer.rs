@@ -2,16 +2,16 @@
 
 use super::compacting::Exchange;
 use super::endings::Endings;
-use super::state::{LogState, State};
+use super::state::{Admission, Phase, State};
 use super::Core;
-use crate::body::Moment;
+use crate::call::body::Moment;
+use crate::call::fault::Fault;
 use crate::call::Call;
-use crate::fault::Fault;
-use crate::kept::Origin;
-use crate::ledger::Needed;
+use crate::log::fault::LogFault;
+use crate::log::kept::Origin;
 use crate::log::Log;
-use crate::log_fault::LogFault;
-use crate::program::{Program, CHANGES_NOTHING};
+use crate::os::program::{Program, CHANGES_NOTHING};
+use crate::turns::ledger::Needed;
 use std::io::Write;
 use std::sync::{Arc, MutexGuard, PoisonError};
 use std::time::{Duration, Instant};
@@ -38,19 +38,19 @@ fn fault_of(fault: LogFault) -> Fault {
 
 impl Core {
     /// Makes batches until the core is closed or over.
-    pub(super) fn sequence(self: &Arc<Core>, mut log: Log, mut origin: Origin) {
+    pub(super) fn sequence(self: &Arc<Core>, mut log: Box<dyn Log>, mut origin: Origin) {
         let mut piped = Vec::new();
         loop {
             match self.next_work() {
-                Work::Batch(calls) => self.serve(calls, &mut log, &mut piped),
-                Work::Exchange(exchange) => self.exchange_now(*exchange, &mut log, &mut origin),
+                Work::Batch(calls) => self.serve(calls, log.as_mut(), &mut piped),
+                Work::Exchange(exchange) => self.exchange_now(*exchange, log.as_mut(), &mut origin),
                 Work::End => return,
             }
         }
     }
 
     fn wait<'a>(&self, mut state: MutexGuard<'a, State>) -> MutexGuard<'a, State> {
-        state.flags.is_idle = true;
+        state.is_idle = true;
         self.wake.wait(state).unwrap_or_else(PoisonError::into_inner)
     }
 
@@ -59,7 +59,7 @@ impl Core {
         match state.left_of_wait(Instant::now()) {
             None => self.wait(state),
             Some(left) => {
-                state.flags.is_idle = true;
+                state.is_idle = true;
                 self.wake.wait_timeout(state, left).unwrap_or_else(PoisonError::into_inner).0
             }
         }
@@ -68,11 +68,11 @@ impl Core {
     fn next_work(self: &Arc<Core>) -> Work {
         let mut state = self.lock();
         loop {
-            if state.flags.is_closed || state.over.is_some() {
+            if state.phase.is_at_its_end() {
                 return Work::End;
             }
             if state.is_long() {
-                state.flags.is_compacting = true;
+                state.compaction.begin();
                 drop(state);
                 self.compact_long();
                 state = self.lock();
@@ -86,14 +86,14 @@ impl Core {
     }
 
     /// Serves a batch.
-    fn serve(&self, mut calls: Vec<Call>, log: &mut Log, piped: &mut Vec<u8>) {
-        let moment = Moment::of(self.now());
+    fn serve(&self, mut calls: Vec<Call>, log: &mut dyn Log, piped: &mut Vec<u8>) {
+        let moment = Moment::new(self.now());
         for call in &mut calls {
             call.end(&moment);
         }
-        let before = log.len();
-        let logged = calls.iter().filter(|call| call.is_logged()).map(|call| call.text.as_slice());
-        let kept = if logged.clone().next().is_some() { log.write(logged) } else { log.confirm() };
+        let before = log.lines();
+        let mut logged = calls.iter().filter(|call| call.is_logged()).map(|call| call.text.as_slice()).peekable();
+        let kept = if logged.peek().is_some() { log.write(&mut logged) } else { log.confirm() };
         if let Err(fault) = kept {
             calls = self.refuse(calls, log, fault);
         }
@@ -105,7 +105,7 @@ impl Core {
             piped.extend_from_slice(&call.text);
             piped.push(b'\n');
         }
-        let written = log.len() - before;
+        let written = log.lines() - before;
         if let Some(generation) = self.hand_over(calls, log, written) {
             self.feed(piped, generation);
         }
@@ -115,11 +115,11 @@ impl Core {
     }
 
     /// Fails the calls that the log did not take. The reads are left.
-    fn refuse(&self, calls: Vec<Call>, log: &Log, fault: LogFault) -> Vec<Call> {
+    fn refuse(&self, calls: Vec<Call>, log: &dyn Log, fault: LogFault) -> Vec<Call> {
         let (refused, left) = calls.into_iter().partition(Call::is_logged);
         let fault = fault_of(fault);
         let mut state = self.lock();
-        state.log = LogState::of(log);
+        state.log = log.state();
         state.refuse(refused, &fault);
         self.release(state);
         if log.is_broken() {
@@ -129,13 +129,13 @@ impl Core {
     }
 
     /// Notes calls as sent. The program that they are for; None where nothing is served any more.
-    fn hand_over(&self, calls: Vec<Call>, log: &Log, written: u64) -> Option<u64> {
+    fn hand_over(&self, calls: Vec<Call>, log: &dyn Log, written: u64) -> Option<u64> {
         let mut state = self.lock();
-        while state.flags.is_restarting && state.over.is_none() && !state.flags.is_closed {
+        while state.in_flight.is_restarting() && !state.phase.is_at_its_end() {
             state = self.wait(state);
         }
-        state.log = LogState::of(log);
-        if let Some(fault) = state.over.clone() {
+        state.log = log.state();
+        if let Some(fault) = state.phase.over().cloned() {
             for call in calls {
                 state.fail(call, &fault);
             }
@@ -145,8 +145,8 @@ impl Core {
         if written > 0 {
             state.metrics.batches.add(written as f64);
         }
-        state.sent.extend(calls);
-        Some(state.generation)
+        state.in_flight.sent.extend(calls);
+        Some(state.in_flight.generation)
     }
 
     /// Gives the program lines, unless another one was started meanwhile, which was given them. That it has ended shows
@@ -159,19 +159,19 @@ impl Core {
     }
 
     /// Has the disk keep what was written, and answers the calls that waited for it.
-    fn sync(&self, log: &mut Log) {
+    fn sync(&self, log: &mut dyn Log) {
         let begun = Instant::now();
         if let Err(fault) = log.sync() {
-            self.lock().log = LogState::of(log);
+            self.lock().log = log.state();
             self.end(fault_of(fault));
             return;
         }
         let mut state = self.lock();
         state.metrics.syncs.add(begun.elapsed().as_secs_f64());
-        state.was_synced(log.len().saturating_sub(1));
+        state.was_synced(log.lines().saturating_sub(1));
         let answers = std::mem::take(&mut state.answers);
         drop(state);
-        self.untold.tell(answers);
+        self.answer_queue.tell(answers);
     }
 
     // Compaction.
@@ -179,35 +179,33 @@ impl Core {
     /// Waits until all that was written is synced and answered.
     pub(super) fn wait_until_quiet(&self) -> Result<(), Fault> {
         let mut state = self.lock();
-        state.flags.is_resting = true;
+        state.compaction.rest();
         while !state.is_settled() {
             state = self.wait(state);
         }
-        state.flags.is_resting = false;
-        match state.over.clone() {
-            Some(fault) => Err(fault),
-            None if state.flags.is_closed => Err(Fault::Draining),
-            None => {
-                state.flags.is_exchanging = true;
+        state.compaction.serve_on();
+        match &state.phase {
+            Phase::Over(fault) => Err(fault.clone()),
+            Phase::Closed => Err(Fault::Draining),
+            Phase::Serving | Phase::Draining => {
+                state.compaction.exchange_now();
                 Ok(())
             }
         }
     }
 
     /// Has calls served by another program, which has served the lines that the log has now, and lets the one before go.
-    pub(super) fn take_up(&self, mut program: Program, log: &Log, origin: &Origin) {
+    pub(super) fn take_up(&self, mut program: Program, log: &dyn Log, origin: &Origin) {
         let pipe = program.take_input();
         let mut state = self.lock();
-        state.generation += 1;
-        state.pid = program.pid();
-        state.next_program = Some(program);
+        let generation = state.in_flight.feed(program.pid());
+        state.in_flight.next_program = Some(program);
         state.origin = origin.clone();
-        state.log = LogState::of(log);
-        state.answered = state.log.lines;
-        state.synced = state.log.lines;
-        state.endings = Endings::default();
+        state.log = log.state();
+        state.in_flight.answered = state.log.lines;
+        state.in_flight.synced = state.log.lines;
+        state.in_flight.endings = Endings::default();
         state.metrics.compactions += 1;
-        let generation = state.generation;
         drop(state);
         let mut input = self.lock_input();
         input.generation = generation;
@@ -218,9 +216,9 @@ impl Core {
         drop(input);
         self.end_input_if_closed();
         let mut state = self.lock();
-        state.flags.is_exchanging = false;
+        state.compaction.serve_on();
         self.wake.notify_all();
-        while state.next_program.is_some() && state.over.is_none() && !state.flags.is_closed {
+        while state.in_flight.next_program.is_some() && !state.phase.is_at_its_end() {
             state = self.wait(state);
         }
     }
@@ -229,37 +227,37 @@ impl Core {
 impl State {
     /// What is to be done next; None where nothing is.
     fn next_work(&mut self) -> Option<Work> {
-        if self.flags.is_restarting {
+        if self.in_flight.is_restarting() {
             return None;
         }
-        if let Some(exchange) = self.exchange.take() {
+        if let Some(exchange) = self.compaction.exchange.take() {
             return Some(Work::Exchange(Box::new(exchange)));
         }
-        let is_asked = !self.asked.is_empty() || !self.own.is_empty();
-        (is_asked && !self.window.is_far_ahead(self.log.lines)).then(|| Work::Batch(self.next_calls()))
+        let may_go_on = self.admission.has_asked() && !self.compaction.window.is_far_ahead(self.log.lines);
+        may_go_on.then(|| Work::Batch(self.next_calls()))
     }
 
     /// For how long calls that are far ahead of a program beside may still wait for it; None where none wait.
     fn left_of_wait(&mut self, now: Instant) -> Option<Duration> {
-        let is_asked = !self.asked.is_empty() || !self.own.is_empty();
-        (is_asked && !self.flags.is_restarting).then(|| self.window.left_of_wait(self.log.lines, now))?
+        let may_wait = self.admission.has_asked() && !self.in_flight.is_restarting();
+        may_wait.then(|| self.compaction.window.left_of_wait(self.log.lines, now))?
     }
 
     /// Whether all that was written was answered, or nothing is served any more.
     fn is_settled(&self) -> bool {
-        let is_over = self.over.is_some() || self.flags.is_closed;
-        is_over || (self.sent.is_empty() && !self.flags.is_taking && !self.flags.is_restarting)
+        self.phase.is_at_its_end() || self.in_flight.is_settled()
     }
 
     /// The calls of the next batch, and after them the turns that they make necessary.
     fn next_calls(&mut self) -> Vec<Call> {
-        let line = self.log.lines;
-        self.window.hold(&mut self.asked, &mut self.own, line);
-        let mut calls = Vec::with_capacity(self.own.len() + self.asked.len().min(MOST_LINES) + ROOM_FOR_TURNS);
-        calls.extend(self.own.drain(..).map(Call::own));
+        let (line, window) = (self.log.lines, &mut self.compaction.window);
+        let Admission { asked, own, .. } = &mut self.admission;
+        window.hold(asked, own, line);
+        let mut calls = Vec::with_capacity(own.len() + asked.len().min(MOST_LINES) + ROOM_FOR_TURNS);
+        calls.extend(own.drain(..).map(Call::own));
         let (mut needed, mut size) = (Needed::default(), 0);
         while calls.len() < MOST_LINES && size < MOST_BYTES {
-            let call = match self.asked.pop_front() {
+            let call = match asked.pop_front() {
                 Some(call) => call,
                 None => break,
             };
@@ -268,23 +266,9 @@ impl State {
             calls.push(call);
         }
         let mut turns = self.ledger.turns(&needed);
-        self.called |= !turns.is_empty();
-        self.window.hold_turns(&mut turns);
+        self.due.called |= !turns.is_empty();
+        window.hold_turns(&mut turns);
         calls.extend(turns.into_iter().map(Call::own));
         calls
-    }
-
-    /// A sync has covered the lines up to this one.
-    fn was_synced(&mut self, number: u64) {
-        self.synced = number;
-        let now = Instant::now();
-        while self.unsynced.front().map_or(false, |first| first.call.number <= number) {
-            if let Some(answered) = self.unsynced.pop_front() {
-                self.let_go(answered, now);
-            }
-        }
-        if std::mem::take(&mut self.flags.has_missed) {
-            self.wake_all_polls();
-        }
     }
 }

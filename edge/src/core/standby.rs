@@ -6,10 +6,10 @@
 
 use super::state::State;
 use super::Core;
-use crate::following::{serve_text, Tail};
-use crate::kept::{NotServed, Origin};
-use crate::program::Program;
-use crate::say::say;
+use crate::log::following::{serve_text, Tail};
+use crate::log::kept::{NotServed, Origin};
+use crate::os::program::Program;
+use crate::os::stderr::report;
 use std::sync::{MutexGuard, PoisonError};
 use std::time::{Duration, Instant};
 
@@ -64,7 +64,7 @@ impl Core {
             self.standby.notify_all();
             // The lines of a log that was exchanged may be gone just while they are read.
             if let (Err(fault), true) = (result, is_same) {
-                say!("the second program ended, and another one is started later: {fault}");
+                report!("the second program ended, and another one is started later: {fault}");
                 self.rest_unless_compacted(generation);
             }
         }
@@ -78,10 +78,10 @@ impl Core {
     fn next_to_follow(&self) -> Option<Origin> {
         let mut state = self.lock();
         loop {
-            if state.is_at_its_end() {
+            if state.phase.is_at_its_end() {
                 return None;
             }
-            if !state.flags.is_compacting && !state.flags.is_restarting {
+            if !state.compaction.is_under_way() && !state.in_flight.is_restarting() {
                 return Some(state.origin.clone());
             }
             state = self.wait_for(state, LONG_REST);
@@ -91,13 +91,13 @@ impl Core {
     fn rest_unless_compacted(&self, generation: u64) {
         let late = Instant::now() + REST_AFTER_FAULT;
         let mut state = self.lock();
-        while !state.is_at_its_end() && state.origin.generation == generation && Instant::now() < late {
+        while !state.phase.is_at_its_end() && state.origin.generation == generation && Instant::now() < late {
             state = self.wait_for(state, LONG_REST);
         }
     }
 
     fn begin_standby(mut origin: Origin) -> Result<Standby, NotServed> {
-        let tail = Tail::of(&origin.log)?;
+        let tail = Tail::open(&origin.log)?;
         let mut program = origin.start()?;
         // It is there once it has answered.
         if let Err(fault) = program.check_answers() {
@@ -113,13 +113,16 @@ impl Core {
         let mut rest = LONG_REST;
         loop {
             let mut state = self.lock();
-            if state.is_at_its_end() || state.flags.is_compacting || state.origin.generation != standby.generation {
+            if state.phase.is_at_its_end()
+                || state.compaction.is_under_way()
+                || state.origin.generation != standby.generation
+            {
                 return Ok(false);
             }
             if state.standby.is_wanted {
                 return Ok(true);
             }
-            let answered = state.answered;
+            let answered = state.in_flight.answered;
             let left = answered - standby.tail.count();
             state.standby.is_there = true;
             state.standby.is_near = left <= NEAR;
@@ -185,9 +188,5 @@ impl State {
     /// Whether there is a second program that is near.
     pub fn has_standby(&self) -> bool {
         self.standby.is_there && self.standby.is_near
-    }
-
-    fn is_at_its_end(&self) -> bool {
-        self.flags.is_closed || self.over.is_some()
     }
 }

@@ -1,17 +1,18 @@
 //! The core over a program of some lines of shell, which answers each line with its number.
 
-use super::compacting::{Window, MOST_HELD};
-use super::{Compacted, Core, Limits, Outcome, Threads};
-use crate::body::asked;
-use crate::fault::Fault;
-use crate::kept::NotServed;
-use crate::line_log::Lines;
-use crate::memory_table::{table_in, Shared};
-use crate::moments::{MachineClocks, Moments};
-use crate::opening::Opened;
-use crate::scratch::Scratch;
+use super::window::{Window, MOST_HELD};
+use super::{Compacted, Core, Limits, NotReady, Pending, Threads};
+use crate::call::body::parse_call;
+use crate::call::fault::Fault;
+use crate::log::file::Lines;
+use crate::log::kept::NotServed;
+use crate::log::opening::Opened;
+use crate::log::table::memory::{table_in, Shared};
 use crate::settings::Named;
-use crate::waits::{received, returned, wait_until, SECONDS};
+use crate::testing::scratch::Scratch;
+use crate::testing::test_wait::{received, returned, wait_until, SECONDS};
+use crate::turns::clock::{Clock, MachineClocks};
+use crate::turns::shards::shards;
 use hyper::body::Bytes;
 use std::sync::atomic::{AtomicBool, Ordering::SeqCst};
 use std::sync::{Arc, Mutex};
@@ -58,7 +59,7 @@ struct Served {
 
 impl Served {
     fn new(limit: usize) -> Served {
-        Served::by(limit, |program, log| Opened::of(program, log, &Named::default(), true))
+        Served::by(limit, |program, log| Opened::from_file(program, log, &Named::default(), true))
     }
 
     fn by(limit: usize, open: impl FnOnce(&str, &str) -> Result<Opened, NotServed>) -> Served {
@@ -69,13 +70,13 @@ impl Served {
         let folder = Scratch::new();
         let (program, log) = (folder.program(PROGRAM), folder.path("a.log"));
         let opened = open(&program, &log).map_err(|fault| fault.to_string()).unwrap();
-        let moments = Moments::new(opened.last_moment(), Box::new(MachineClocks::new()));
-        let (core, threads) = Core::start(opened, moments, limit, limits).unwrap();
+        let clock = Clock::new(opened.last_moment(), Box::new(MachineClocks::new()));
+        let (core, threads) = Core::start(opened, clock, limit, limits).unwrap();
         Served { core, threads, log, _folder: folder }
     }
 
-    fn submit(&self, body: &str, key: Option<&str>) -> Result<Outcome, Fault> {
-        self.core.submit(asked(body.as_bytes(), 1).unwrap(), key.map(Into::into))
+    fn submit(&self, body: &str, key: Option<&str>) -> Result<Pending, Fault> {
+        self.core.submit(parse_call(body.as_bytes(), shards(1)).unwrap(), key.map(Into::into))
     }
 
     fn call(&self, body: &str, key: Option<&str>) -> Result<Bytes, Fault> {
@@ -89,7 +90,7 @@ impl Served {
             // Those that ended before and were waited for may have left their numbers to others.
             let words = std::fs::read_to_string(format!("/proc/{program}/cmdline")).unwrap_or_default();
             if words.contains(&self._folder.path("program")) {
-                crate::system::kill(program.parse().unwrap());
+                crate::os::system::kill(program.parse().unwrap());
             }
         }
     }
@@ -99,7 +100,7 @@ impl Served {
         self.core.close();
         assert!(self.threads.join(SECONDS));
         // A process that another test is just starting may hold the log's lock for a moment.
-        let (mut lines, mut found) = (Lines::of(&self.log).unwrap().unwrap(), Vec::new());
+        let (mut lines, mut found) = (Lines::open(&self.log).unwrap().unwrap(), Vec::new());
         while let Some(line) = lines.next().unwrap() {
             found.push(String::from_utf8(line.to_vec()).unwrap());
         }
@@ -107,8 +108,8 @@ impl Served {
     }
 }
 
-fn wait(outcome: Outcome) -> Result<Bytes, Fault> {
-    received("the outcome of a call", outcome).outcome
+fn wait(outcome: Pending) -> Result<Bytes, Fault> {
+    received("the outcome of a call", outcome).result
 }
 
 /// What a compaction comes to.
@@ -139,7 +140,7 @@ fn what_was_answered_is_in_the_log() {
 fn a_call_by_key_is_made_once() {
     let served = Served::new(100);
     let body = r#"{"op":"signal","name":"keyed"}"#;
-    let outcomes: Vec<Outcome> = (0..5).map(|_| served.submit(body, Some("k")).unwrap()).collect();
+    let outcomes: Vec<Pending> = (0..5).map(|_| served.submit(body, Some("k")).unwrap()).collect();
     let replies: Vec<Bytes> = outcomes.into_iter().map(|outcome| wait(outcome).unwrap()).collect();
     assert!(replies.iter().all(|reply| *reply == replies[0]));
     assert_eq!(served.call(body, Some("k")).unwrap(), replies[0]);
@@ -156,7 +157,7 @@ fn a_program_is_started_again_once_for_a_line() {
     assert!(fault.to_string().ends_with("the program ended with status 3"), "{fault}");
     assert!(matches!(served.submit(r#"{"op":"signal","name":"after"}"#, None), Err(Fault::Ended(_))));
     assert_eq!(served.core.lock().metrics.restarts, 1);
-    assert_eq!(served.core.health().wrong, "ended");
+    assert_eq!(served.core.health().not_ready, Some(NotReady::Ended));
     served.end();
 }
 
@@ -164,8 +165,8 @@ fn a_program_is_started_again_once_for_a_line() {
 fn more_calls_than_may_wait_are_refused_and_polls_are_not_counted() {
     let served = Served::new(2);
     let poll = r#"{"op":"poll_workflow_task","task_queue":"main","wait":60000}"#;
-    let polls: Vec<Outcome> = (0..2).map(|_| served.submit(poll, None).unwrap()).collect();
-    wait_until("two polls that wait", || served.core.lock().polls.len() == 2);
+    let polls: Vec<Pending> = (0..2).map(|_| served.submit(poll, None).unwrap()).collect();
+    wait_until("two polls that wait", || served.core.lock().admission.polls.len() == 2);
     assert!(served.call(r#"{"op":"signal","name":"a"}"#, None).is_ok());
     assert!(matches!(served.call(poll, None), Err(Fault::Busy(_))));
     let runtime = tokio::runtime::Builder::new_current_thread().enable_all().build().unwrap();
@@ -203,8 +204,8 @@ impl Calls {
             let mut replies = Vec::new();
             while !is_stopped.load(SeqCst) {
                 let key = format!("{}-{}", &body[7..11], replies.len());
-                let outcome = core.submit(asked(body.as_bytes(), 1).unwrap(), Some(key.into())).unwrap();
-                replies.push(outcome.blocking_recv().unwrap().outcome.unwrap());
+                let outcome = core.submit(parse_call(body.as_bytes(), shards(1)).unwrap(), Some(key.into())).unwrap();
+                replies.push(outcome.blocking_recv().unwrap().result.unwrap());
                 rest_where_many(&core);
             }
             replies
@@ -260,9 +261,9 @@ fn compacted_under_calls(served: &Served) -> (Vec<Bytes>, Vec<Bytes>) {
 
 /// An opened log gives the replies that were had, also those from before the compactions.
 fn knows_replies(opened: Opened, signals: &[Bytes]) {
-    let begin = asked(br#"{"op":"signal","name":"n"}"#, 1).unwrap().begin;
+    let begin = parse_call(br#"{"op":"signal","name":"n"}"#, shards(1)).unwrap().begin;
     for (number, reply) in signals.iter().enumerate() {
-        let found = opened.observed.replies.get(&format!("sign-{number}"), crate::replies::mark_of(&begin));
+        let found = opened.observed.replies.get(&format!("sign-{number}"), crate::call::replies::mark_of(&begin));
         assert_eq!(found, Ok(Some(reply.clone())));
     }
     opened.kept.program.end();
@@ -280,7 +281,10 @@ fn a_log_is_compacted_while_it_is_served_and_loses_nothing() {
         assert_eq!(kept_by(&log, 3, &lines[1..], op), wanted);
     }
     let (program, named) = (_folder.path("program"), Named::default());
-    knows_replies(Opened::of(&program, &log, &named, false).map_err(|fault| fault.to_string()).unwrap(), &signals);
+    knows_replies(
+        Opened::from_file(&program, &log, &named, false).map_err(|fault| fault.to_string()).unwrap(),
+        &signals,
+    );
 }
 
 /// What a table and its snapshots have of calls of an operation, in their order.
@@ -303,7 +307,7 @@ fn a_table_is_compacted_while_it_is_served_and_followed_and_loses_nothing() {
     let shared = Arc::new(Mutex::new(Shared::default()));
     let connect = table_in(&shared);
     let open = move |program: &str| {
-        Opened::of_table(program, &connect, &Named::default(), true).map_err(|fault| fault.to_string()).unwrap()
+        Opened::from_table(program, &connect, &Named::default(), true).map_err(|fault| fault.to_string()).unwrap()
     };
     let served = Served::by(100, |program, _| Ok(open(program)));
     let program = served._folder.path("program");
@@ -319,7 +323,7 @@ fn a_table_is_compacted_while_it_is_served_and_followed_and_loses_nothing() {
         let wanted: Vec<String> = (0..count).map(|number| format!("{name}-{number}")).collect();
         assert_eq!(kept_in(&shared.lock().unwrap(), op), wanted);
     }
-    let place = |opened: &Opened| (opened.kept.log.len(), opened.kept.log.size(), opened.kept.log.batches());
+    let place = |opened: &Opened| (opened.kept.log.lines(), opened.kept.log.bytes(), opened.kept.log.batches());
     shared.lock().unwrap().is_led = false;
     let followed = returned("a follower that leads", follower);
     shared.lock().unwrap().is_led = false;
@@ -337,9 +341,9 @@ fn a_table_is_compacted_while_it_is_served_and_followed_and_loses_nothing() {
 fn while_batches_rest_a_table_is_asked_by_no_second_connection() {
     let shared = Arc::new(Mutex::new(Shared::default()));
     let connect = table_in(&shared);
-    let served = Served::by(100, |program, _| Opened::of_table(program, &connect, &Named::default(), true));
+    let served = Served::by(100, |program, _| Opened::from_table(program, &connect, &Named::default(), true));
     let core = Arc::downgrade(&served.core);
-    let is_exchanging = move || core.upgrade().map_or(false, |core| core.lock().flags.is_exchanging);
+    let is_exchanging = move || core.upgrade().map_or(false, |core| core.lock().compaction.is_exchanging());
     shared.lock().unwrap().cuts_off = Some(Arc::new(is_exchanging));
     compacted_under_calls(&served);
     assert!(shared.lock().unwrap().starts.len() == 3);
@@ -351,12 +355,12 @@ fn while_batches_rest_a_table_is_asked_by_no_second_connection() {
 fn a_table_is_not_compacted_once_another_edge_leads() {
     let shared = Arc::new(Mutex::new(Shared::default()));
     let connect = table_in(&shared);
-    let served = Served::by(100, |program, _| Opened::of_table(program, &connect, &Named::default(), true));
+    let served = Served::by(100, |program, _| Opened::from_table(program, &connect, &Named::default(), true));
     assert!(served.call(r#"{"op":"signal","name":"n"}"#, None).is_ok());
     shared.lock().unwrap().epoch += 1;
     // The clock's own turns may have found it first.
     assert!(compacted(&served).map(drop).unwrap_err().to_string().contains("another edge leads"));
-    assert!(served.core.lock().over.is_some() && shared.lock().unwrap().starts.is_empty());
+    assert!(served.core.lock().phase.over().is_some() && shared.lock().unwrap().starts.is_empty());
     served.core.close();
     assert!(served.threads.join(SECONDS), "{:?}", served.threads.left());
 }
@@ -365,13 +369,13 @@ fn a_table_is_not_compacted_once_another_edge_leads() {
 fn no_call_waits_for_a_tail_that_hangs() {
     let shared = Arc::new(Mutex::new(Shared::default()));
     let connect = table_in(&shared);
-    let served = Served::by(100, |program, _| Opened::of_table(program, &connect, &Named::default(), true));
+    let served = Served::by(100, |program, _| Opened::from_table(program, &connect, &Named::default(), true));
     let signal = || served.call(r#"{"op":"signal","name":"n"}"#, None);
     assert!(is_signaled(&signal().unwrap()));
     shared.lock().unwrap().hangs = true;
     let outcome = served.core.compact(0).unwrap();
     // As where calls come as fast as the program beside serves them: what is ahead of it waits.
-    served.core.lock().window.have_wait(0);
+    served.core.lock().compaction.window.have_wait(0);
     let begun = Instant::now();
     assert!(is_signaled(&signal().unwrap()));
     assert!(begun.elapsed() >= MOST_HELD);
@@ -416,12 +420,12 @@ fn compacted_by_itself(served: &Served) {
 fn a_log_is_compacted_by_itself_once_it_is_long_or_old() {
     let table = table_in(&Arc::new(Mutex::new(Shared::default())));
     for limits in [Limits { bytes: 2_000, ..LIMITS }, Limits { time: Duration::from_millis(50), ..LIMITS }] {
-        let served = Served::with(100, limits, |program, log| Opened::of(program, log, &Named::default(), true));
+        let served = Served::with(100, limits, |program, log| Opened::from_file(program, log, &Named::default(), true));
         compacted_by_itself(&served);
         served.end();
     }
     let limits = Limits { bytes: 2_000, ..LIMITS };
-    let served = Served::with(100, limits, |program, _| Opened::of_table(program, &table, &Named::default(), true));
+    let served = Served::with(100, limits, |program, _| Opened::from_table(program, &table, &Named::default(), true));
     compacted_by_itself(&served);
     served.core.close();
     assert!(served.threads.join(SECONDS));
@@ -430,14 +434,14 @@ fn a_log_is_compacted_by_itself_once_it_is_long_or_old() {
 #[test]
 fn a_second_program_takes_the_place_of_one_that_ends() {
     let limits = Limits { has_standby: true, ..LIMITS };
-    let served = Served::with(100, limits, |program, log| Opened::of(program, log, &Named::default(), true));
+    let served = Served::with(100, limits, |program, log| Opened::from_file(program, log, &Named::default(), true));
     let signals = Calls::begin(&served.core, r#"{"op":"signal","name":"n"}"#);
     for killed in 1..=3 {
         wait_until("a second program", || served.core.lock().has_standby());
         // It is not started anew: there is no program under this name.
         let (path, away) = (served._folder.path("program"), served._folder.path("away"));
         std::fs::rename(&path, &away).unwrap();
-        crate::system::kill(served.core.lock().pid);
+        crate::os::system::kill(served.core.lock().in_flight.pid);
         wait_until("the second program that serves", || {
             let state = served.core.lock();
             state.metrics.restarts >= killed && !state.has_standby()
@@ -454,7 +458,7 @@ fn a_second_program_takes_the_place_of_one_that_ends() {
 fn a_second_program_that_was_ended_with_the_first_one_takes_no_place() {
     let limits = Limits { has_standby: true, ..LIMITS };
     for rest in [0, 300, 600] {
-        let served = Served::with(100, limits, |program, log| Opened::of(program, log, &Named::default(), true));
+        let served = Served::with(100, limits, |program, log| Opened::from_file(program, log, &Named::default(), true));
         assert!(is_signaled(&served.call(r#"{"op":"signal","name":"before"}"#, None).unwrap()));
         wait_until("a second program", || served.core.lock().has_standby());
         // By then it has served all there is, so that it is not missed before it is asked.
@@ -482,14 +486,14 @@ fn a_program_that_is_killed_again_and_again_is_no_lines_fault() {
 #[test]
 fn a_program_that_has_ended_is_not_ready() {
     let served = Served::new(100);
-    let pid = served.core.lock().pid;
-    assert_eq!((crate::system::has_ended(pid), served.core.health().wrong), (false, ""));
+    let pid = served.core.lock().in_flight.pid;
+    assert_eq!((crate::os::system::has_ended(pid), served.core.health().not_ready), (false, None));
     // Another child that has ended stands for it, so that nobody notices.
     let ended = std::process::Command::new("/bin/sh").args(["-c", "exit 3"]).spawn().unwrap().id();
-    wait_until("a child that ends", || crate::system::has_ended(ended));
-    served.core.lock().pid = ended;
-    assert_eq!(served.core.health().wrong, "restarting");
-    served.core.lock().pid = pid;
+    wait_until("a child that ends", || crate::os::system::has_ended(ended));
+    served.core.lock().in_flight.pid = ended;
+    assert_eq!(served.core.health().not_ready, Some(NotReady::Restarting));
+    served.core.lock().in_flight.pid = pid;
     served.end();
 }
 
@@ -510,7 +514,7 @@ fn a_program_that_writes_no_snapshots_is_served_on() {
 fn a_read_is_not_answered_once_another_edge_leads() {
     let shared = Arc::new(Mutex::new(Shared::default()));
     let connect = table_in(&shared);
-    let served = Served::by(9, |program, _| Opened::of_table(program, &connect, &Named::default(), true));
+    let served = Served::by(9, |program, _| Opened::from_table(program, &connect, &Named::default(), true));
     let read = || served.submit(r#"{"op":"describe","workflow_id":"w"}"#, None);
     assert!(wait(read().unwrap()).is_ok());
     shared.lock().unwrap().epoch += 1;

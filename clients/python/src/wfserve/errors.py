@@ -49,11 +49,20 @@ class CallLost(Unavailable):
     """The connection was lost. The call may have taken effect."""
 
 
+class NotTrusted(Unavailable):
+    """No connection by TLS: one end doesn't trust the other's certificate. The call was not made."""
+
+    @property
+    def passes(self) -> bool:
+        """A certificate is the same when it is looked at again."""
+        return False
+
+
 class NotServed(Unavailable):
     """The server answered no reply. Where it was busy (503), nothing took effect."""
 
-    # The server failed, or something in front of it; is busy; has no room on its disk.
-    AWAY = (500, 502, 503, 504, 507)
+    # The caller makes more calls than it may; the server failed, or something in front of it; is busy; has no room.
+    AWAY = (429, 500, 502, 503, 504, 507)
 
     def __init__(self, status: int, said: str):
         super().__init__(f"status {status}: {said}")
@@ -113,6 +122,10 @@ class OtherJournal(LogFault):
     """A file is no journal of this version, or a line in it is no step."""
 
 
+class NoJournal(LogFault):
+    """A file is named where the folder of a journal is wanted. It may be a log, of which `wf move-log` makes a journal."""
+
+
 class LogInUse(LogFault):
     """Another program has the log open."""
 
@@ -135,6 +148,10 @@ class RefusedSettings(LogFault):
 
 class NotCompacted(LogFault):
     """The log or the journal could not be compacted. It is as it was."""
+
+
+class NotMoved(LogFault):
+    """A log could not be made a journal, or a journal a log. It is as it was."""
 
 
 class CompactionRuns(NotCompacted):

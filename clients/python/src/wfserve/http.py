@@ -1,9 +1,11 @@
-"""Speaks with a service over HTTP, as wfserve.server serves one. It needs nothing but Python.
+"""Speaks with a service over HTTP, as the compiled edge serves one. It needs nothing but Python.
 
     from wfserve.http import HttpService
 
     service = HttpService("http://127.0.0.1:7233", wait=20_000)
     service.start("order-17", "order", request_id="order-17-start")
+
+An address with https is spoken to by TLS; `tls_context` names an authority of one's own.
 
 It may be called by many threads; each has a connection of its own.
 
@@ -19,6 +21,7 @@ import functools
 import http.client
 import json
 import random
+import ssl
 import threading
 import time
 import urllib.parse
@@ -28,7 +31,7 @@ from typing import Any, Dict, Iterator, List, Optional, Set, Tuple, Type
 
 from wfserve.blobs import BlobDamaged, BlobMissing, BlobsNotKept, name_of
 from wfserve.calls import Calls, answered, from_event
-from wfserve.errors import CallLost, NotServed
+from wfserve.errors import CallLost, NotServed, NotTrusted
 from wfserve.operations import POLLS, READS
 from wfserve.types import Event, Json, Reply, Request
 
@@ -40,6 +43,8 @@ FIRST_PAUSE, LONGEST_PAUSE = 0.05, 2.0
 MOST_WAIT = 20.0
 # What a server answers that has no such path, or no such blob.
 NOT_THERE = (404, 405)
+# Faults of TLS where the other end just went away.
+CUT_OFF = (ssl.SSLEOFError, ssl.SSLZeroReturnError, ssl.SSLWantReadError, ssl.SSLWantWriteError)
 # For how many seconds a call is made again, a heartbeat, for which an activity waits, and a poll.
 PATIENCE, HEARTBEAT_PATIENCE, POLL_PATIENCE = 60.0, 1.0, 5.0
 
@@ -74,20 +79,32 @@ def answer_to(
     return connection.getresponse()
 
 
+def tls_context(ca: Optional[str] = None, client_cert: Optional[str] = None) -> ssl.SSLContext:
+    """How https is spoken. The server's certificate has to be signed by one in the PEM file `ca`, or by one that the
+    system trusts, and to be of the host that the address names. `client_cert` is a PEM file with a certificate and its
+    key, for a server that wants one. OSError where a file can't be read, ssl.SSLError where it has no certificate."""
+    context = ssl.create_default_context(cafile=ca)
+    if client_cert:
+        context.load_cert_chain(client_cert)
+    return context
+
+
 class HttpService(Calls):
     """The calls of Service, over HTTP. The server's clock says when.
 
-    A poll waits for `wait` milliseconds. A call that counts once is made again for `patience` seconds.
+    A poll waits for `wait` milliseconds. A call that counts once is made again for `patience` seconds. `context` says
+    whom an address with https trusts: whom the system does, where none is given.
     """
 
     def __init__(
         self, url: str, token: Optional[str] = None, wait: int = 0, timeout: float = 60,
-        patience: float = PATIENCE,
+        patience: float = PATIENCE, context: Optional[ssl.SSLContext] = None,
     ):
         parts = urllib.parse.urlsplit(url)
-        if parts.scheme != "http" or not parts.hostname:
+        if parts.scheme not in ("http", "https") or not parts.hostname:
             raise ValueError(f"{url} is no address as http://127.0.0.1:7233")
         self.url = url
+        self._context = (context or tls_context()) if parts.scheme == "https" else None
         self._host, self._port = parts.hostname, parts.port
         self._headers = {"Content-Type": "application/json"}
         if token:
@@ -182,22 +199,30 @@ class HttpService(Calls):
             response = answer_to(connection, method, path, body, {**self._headers, **headers})
             return response.status, response.read().decode()
         except (OSError, http.client.HTTPException, AttributeError, ValueError) as fault:
-            # Where another thread has closed the connection meanwhile, http.client finds its file gone or closed.
-            if isinstance(fault, (AttributeError, ValueError)) and not self._hopeless.is_set():
+            # Where another thread has closed the connection meanwhile, http.client finds its file gone or closed. A
+            # certificate's fault is a ValueError too.
+            is_closed = isinstance(fault, (AttributeError, ValueError)) and not isinstance(fault, OSError)
+            if is_closed and not self._hopeless.is_set():
                 raise
             self._own.connection = None
             self._open.discard(connection)
             connection.close()
-            raise CallLost(f"{self.url}: {type(fault).__name__}: {fault}") from fault
+            said = f"{self.url}: {type(fault).__name__}: {fault}"
+            if isinstance(fault, ssl.SSLError) and not isinstance(fault, CUT_OFF):
+                raise NotTrusted(said) from fault
+            raise CallLost(said) from fault
 
     def _connection(self) -> http.client.HTTPConnection:
         connection: Optional[http.client.HTTPConnection] = getattr(self._own, "connection", None)
         if connection is None:
-            connection = self._own.connection = http.client.HTTPConnection(
-                self._host, self._port, timeout=self._timeout
-            )
+            connection = self._own.connection = self._new_connection()
             self._open.add(connection)
         return connection
+
+    def _new_connection(self) -> http.client.HTTPConnection:
+        if self._context is None:
+            return http.client.HTTPConnection(self._host, self._port, timeout=self._timeout)
+        return http.client.HTTPSConnection(self._host, self._port, timeout=self._timeout, context=self._context)
 
     def give_up(self) -> None:
         """From now on no call is made again: those that wait for that fail."""

@@ -33,3 +33,8 @@ KEYS: Dict[str, FrozenSet[str]] = {op: frozenset(keys.split()) for op, keys in _
 # These change nothing.
 READS = ("history", "describe")
 POLLS = ("poll_workflow_task", "poll_activity_task")
+# The HTTP status of each refusal, where the path names the call's operation: POST /calls/start. docs/HTTP.md has this table.
+STATUSES: Dict[str, int] = {
+    "InvalidArgument": 422, "InvalidToken": 422, "NotFound": 404, "UnknownTaskQueue": 404, "AlreadyStarted": 409,
+    "CancellationAlreadyRequested": 409, "QueueFull": 503, "Busy": 503, "NoMemory": 507,
+}

@@ -10,7 +10,7 @@ import json
 import os
 import re
 from dataclasses import dataclass
-from typing import Any, Dict, Iterable, Iterator, List, Tuple
+from typing import Any, Dict, Iterable, Iterator, Tuple
 
 from wfserve.errors import LogDamaged
 from wfserve.types import Json
@@ -73,17 +73,6 @@ def head_and_last(path: str) -> Tuple[Json, int]:
     if last is None or not isinstance(head, dict):
         raise LogDamaged(f"{path}: damaged: it is no snapshot")
     return head, int(last[1])
-
-
-def accepted_from(path: str) -> List[int]:
-    """The shards of which the shard of a snapshot has accepted transfers."""
-    with open(path, "rb") as file:
-        file.readline()
-        try:
-            counts = json.loads(file.readline())["counted"]["transfers"]
-            return [shard for shard, count in enumerate(counts) if int(count["accepted"]) > 0]
-        except (ValueError, KeyError, TypeError):
-            raise LogDamaged(f"{path}: damaged: it is no snapshot") from None
 
 
 def last_moment_of(path: str) -> int:

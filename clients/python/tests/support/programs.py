@@ -49,10 +49,15 @@ for number, line in enumerate(sys.stdin, 1):
     time.sleep(0.3 if "slow" in line else 0)
     print(json.dumps({"line": number, "ok": ok, "said": line.strip()}), flush=True)
 """]
+# The same with a journal, in which nothing is written.
+JOURNALING = [*COUNTING[:3], """
+import os, sys
+open(os.path.join(sys.argv[sys.argv.index("--journal") + 1], "journal"), "ab").close()
+""" + COUNTING[3]]
 
 
 def python_with_aiohttp():
-    """The first Python that the server can run on, or None."""
+    """The first Python that the page can run on, or None."""
     for python in (sys.executable, "/usr/bin/python3"):
         try:
             ran = subprocess.run([python, "-c", "import aiohttp"], stderr=subprocess.DEVNULL)
@@ -72,7 +77,20 @@ def has_loopback():
         return False
 
 
-# What that Python is asked to run.
-SERVER = ["-m", "wfserve.server"]
-SERVER_PYTHON = python_with_aiohttp() if has_loopback() else None
-needs_server = unittest.skipUnless(SERVER_PYTHON, "no loopback, or no Python with aiohttp (clients/python/setup.sh installs it)")
+# The compiled edge, and what its page is served by.
+EDGE = pathlib.Path(os.environ.get("WFEDGE", ROOT / "edge/target/release/wfedge"))
+PAGE = ROOT / "edge/page.py"
+PYTHON = python_with_aiohttp() if has_loopback() else None
+NO_SERVER = "no loopback, no Python with aiohttp (clients/python/setup.sh installs it), or no compiled edge (edge/setup.sh builds it)"
+
+
+def needs_server(tested):
+    """Skips a test, or a class of tests, where there is no server, and marks it: the gate runs those with the mark once it has
+    built the edge (edge/tests/test_client_suites.py)."""
+    tested.wants_server = True
+    return tested if PYTHON and EDGE.exists() else unittest.skip(NO_SERVER)(tested)
+
+
+def server_words(program, *options):
+    """The command of a server by this program, with options of the edge."""
+    return [str(EDGE), "--page", str(PYTHON), "--page", str(PAGE), "--program", str(program), *options]

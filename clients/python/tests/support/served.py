@@ -14,7 +14,7 @@ import sys
 import time
 import weakref
 
-from support.programs import SERVER, SERVER_PYTHON
+from support.programs import server_words
 from wfserve.http import HttpService, answer_to
 
 
@@ -49,6 +49,45 @@ def kill_all(*pids):
         with contextlib.suppress(ProcessLookupError):
             os.kill(pid, signal.SIGKILL)
     until(lambda: all(has_ended(pid) for pid in pids))
+
+
+def is_program(pid):
+    """Whether a process is a program that the edge serves by, and no page."""
+    try:
+        words = pathlib.Path(f"/proc/{pid}/cmdline").read_bytes().split(b"\0")
+    except OSError:
+        return False
+    # A process that is just being started has the edge's own words.
+    return b"--capacity" in words and not {b"--save", b"--snapshot", b"--program"} & set(words)
+
+
+def begun(pid):
+    """When a process began. None where it has ended."""
+    try:
+        return int(pathlib.Path(f"/proc/{pid}/stat").read_text(encoding="utf-8").rpartition(") ")[2].split()[19])
+    except OSError:
+        return None
+
+
+def children_of(pid):
+    """All processes that an edge has started: its threads start them."""
+    found = []
+    for children in pathlib.Path(f"/proc/{pid}/task").glob("*/children"):
+        # A thread may have ended meanwhile.
+        with contextlib.suppress(OSError):
+            found += [int(child) for child in children.read_text(encoding="utf-8").split()]
+    return found
+
+
+def programs_of(pid):
+    """All programs of an edge, the one that serves first, without the page. One that follows began later."""
+    ages = [(begun(child), child) for child in children_of(pid) if is_program(child)]
+    return [child for _, child in sorted((age, child) for age, child in ages if age is not None)]
+
+
+def program_of(pid):
+    """The program that an edge serves by. None where there is none."""
+    return next(iter(programs_of(pid)), None)
 
 
 def free_port():
@@ -89,9 +128,7 @@ class Server:
         # How each process before this one ended, with what it said; and those of them that ended by themselves.
         self.former, self.own_ends, self.process = [], [], None
         SERVERS.add(self)
-        self._command = [
-            SERVER_PYTHON, *SERVER, "--program", program, "--log", str(log), *options
-        ]
+        self._command = server_words(program, "--log", str(log), *options)
         self.start()
 
     def start(self):

@@ -1,5 +1,5 @@
 //! An edge with a fault that the tests have to find: `planted` says which. Nothing but tests runs it.
 
-fn main() {
-    std::process::exit(wfedge_postgres::run());
+fn main() -> std::process::ExitCode {
+    wfedge_postgres::run()
 }

@@ -15,12 +15,15 @@ from .code import add_replay, add_work, replay, work
 from .completion import add_completion, completion
 from .connection import add_connection, service_of
 from .dev import add_dev, dev
+from .moves import add_move_journal, add_move_log, journal_to_log, log_to_journal
 from .output import plain, print_json
+from .serve import add_compact_log, add_serve, compact_log, serve
 from .shows import (
     add_call, add_list, add_nothing, add_query, add_tasks, add_trace, call, describe, list_workflows, query, queues, show,
     tasks, trace,
 )
 from .statuses import Status, status_of, text_of_statuses
+from .tokens import add_token, token
 from .workflows import (
     add_id, add_signal, add_start, add_terminate, add_timeout, cancel, execute, result, signal, start, terminate,
 )
@@ -39,6 +42,8 @@ class Command:
     add: Callable[[Parser], None]
     asks: Optional[Callable[[argparse.Namespace, Client], Status]] = None
     runs: Optional[Callable[[argparse.Namespace], Status]] = None
+    # Whether it hands on words that it doesn't know itself.
+    hands_on: bool = False
 
 
 def add_execute(parser: Parser) -> None:
@@ -53,6 +58,7 @@ def add_result(parser: Parser) -> None:
 
 COMMANDS: Dict[str, Command] = {
     "dev": Command("serve workflows on this machine, with a page", add_dev, runs=dev),
+    "serve": Command("serve workflows with a page, by the proved program", add_serve, runs=serve, hands_on=True),
     "work": Command("work for a server, by a module's workflows and activities", add_work, runs=work),
     "start": Command("start a workflow", add_start, start),
     "execute": Command("start a workflow, and wait for its result", add_execute, execute),
@@ -69,12 +75,16 @@ COMMANDS: Dict[str, Command] = {
     "trace": Command("draw a workflow's history", add_trace, trace),
     "replay": Command("check a workflow's code against stored histories", add_replay, runs=replay),
     "call": Command("make any call, as docs/PROFILE.md has them", add_call, call),
+    "compact-log": Command("put snapshots in the place of a log's lines, while nobody serves it", add_compact_log, runs=compact_log),
+    "move-log": Command("make a journal of a server's log, or of an earlier client's", add_move_log, runs=log_to_journal),
+    "move-journal": Command("make a server's log of a journal", add_move_journal, runs=journal_to_log),
+    "token": Command("make a token with a name and rights, for a server's file of tokens", add_token, runs=token),
     "completion": Command("what a shell needs to complete these words", add_completion, runs=completion),
 }
 # A workflow that has closed takes none of these.
 OF_OPEN_ONES = ("signal", "cancel", "terminate")
 # These print nothing that --json would change, or always print JSON.
-WITHOUT_JSON = ("dev", "work", "replay", "trace", "query", "call", "completion")
+WITHOUT_JSON = ("dev", "serve", "work", "replay", "trace", "query", "call", "token", "completion")
 
 
 def make_parser() -> Parser:
@@ -98,8 +108,12 @@ def make_parser() -> Parser:
 
 def run(words: List[str]) -> int:
     """Runs a command. What goes wrong is said on standard error, and in the status."""
-    args = make_parser().parse_args(words)
+    parser = make_parser()
+    args, more = parser.parse_known_args(words)
+    args.more = more
     command = COMMANDS[args.command]
+    if args.more and not command.hands_on:
+        parser.error(f"unrecognized arguments: {' '.join(args.more)}")
     # Code of one's own is looked for where the command is called.
     sys.path.insert(0, "")
     try:

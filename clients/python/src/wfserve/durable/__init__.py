@@ -1,16 +1,14 @@
-"""A service that survives being killed: its lines are in a log, which the program is given again.
+"""A service that survives being killed: the program keeps a journal in a folder, and goes on from there.
 
     from wfserve.durable import DurableService
 
-    with DurableService(["./serve"], "orders.log") as service:
+    with DurableService(["./serve"], "orders") as service:
         service.start("order-17", "Order", request_id="order-17-start")
-
-Where the second word is a folder, the program keeps itself by the journal in it, and there is no log.
 """
 
 from .background import Compaction
 from .moving import move_journal, move_log
 from .service import DurableService
-from .settings import Settings, read_header
+from .settings import Settings
 
-__all__ = ["Compaction", "DurableService", "Settings", "move_journal", "move_log", "read_header"]
+__all__ = ["Compaction", "DurableService", "Settings", "move_journal", "move_log"]

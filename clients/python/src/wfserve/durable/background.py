@@ -8,51 +8,42 @@ from __future__ import annotations
 
 import logging
 import os
+import pathlib
 import signal
 import subprocess
 import sys
 import threading
 import time
 from dataclasses import dataclass
-from typing import Optional, Sequence
+from typing import Dict, Optional, Sequence
 
+import wfserve
 from wfserve.checkpoint import Checkpoint, checkpoint_in, read_checkpoint
 from wfserve.errors import Ended, LogFault, NotCompacted
 from wfserve.frames import END, PIECE
 from wfserve.journal import journal_in
 
-from .due import Limits
-from .successor import with_package
-
 LOG = logging.getLogger("wfserve.journal")
 # How many seconds from one look at the journal's size to the next, and after a compaction that failed.
 LOOK, LOOK_AFTER_FAULT = 5.0, 300.0
-# When a journal is compacted where nobody says so.
-JOURNAL_SIZE, JOURNAL_SECONDS = 64 << 20, 86_400.0
 # The priority of the process, where its parent's isn't lower still.
 NICE = 10
 
 
 @dataclass(frozen=True)
 class Compaction:
-    """When a log or a journal is compacted by itself: as soon as one of these holds, and there is anything new.
+    """When a journal is compacted by itself: as soon as one of these holds, and there is anything new."""
 
-    None is what its kind has: of a journal 64 MiB and a day, of a log what the compiled edge has, 16 MiB and an hour.
-    """
+    # What came since the last compaction has so many bytes, and as many as its snapshots.
+    size: int = 64 << 20
+    # So many seconds are over since the last compaction, or since the opening where there was none.
+    seconds: float = 86_400.0
 
-    # What came since the last compaction has so many bytes, and of a journal as many as its snapshots, of a log twice as many.
-    # 0 is never, of a log.
-    size: Optional[int] = None
-    # So many seconds are over since the last compaction, or since the opening where there was none; and of a log a sixteenth
-    # of the bytes came. 0 is never, of a log.
-    seconds: Optional[float] = None
 
-    def limits(self) -> Limits:
-        """Those of a log."""
-        usual = Limits()
-        return Limits(
-            usual.size if self.size is None else self.size, usual.seconds if self.seconds is None else self.seconds,
-        )
+def with_package() -> Dict[str, str]:
+    """An environment in which a process finds the package where this one has it."""
+    paths = [str(pathlib.Path(wfserve.__file__).parents[1]), os.environ.get("PYTHONPATH", "")]
+    return {**os.environ, "PYTHONPATH": os.pathsep.join(path for path in paths if path)}
 
 
 def bytes_since(folder: str, checkpoint: Optional[Checkpoint]) -> int:
@@ -101,14 +92,12 @@ class Compactor:
                     LOG.warning("the journal goes on uncompacted: %s", fault)
 
     def _is_due(self, rule: Compaction) -> bool:
-        size = JOURNAL_SIZE if rule.size is None else rule.size
-        seconds = JOURNAL_SECONDS if rule.seconds is None else rule.seconds
         checkpoint = read_checkpoint(self._folder)
         since = bytes_since(self._folder, checkpoint)
         if checkpoint is None:
-            return since >= size or (since > 0 and time.time() - self._began >= seconds)
+            return since >= rule.size or (since > 0 and time.time() - self._began >= rule.seconds)
         passed = time.time() - os.stat(checkpoint_in(self._folder)).st_mtime
-        return since >= max(size, checkpoint.size) or (since > 0 and passed >= seconds)
+        return since >= max(rule.size, checkpoint.size) or (since > 0 and passed >= rule.seconds)
 
     def compact(self) -> None:
         """Compacts it now, or once a compaction that runs is over. NotCompacted where it can't be done."""

@@ -1,4 +1,4 @@
-"""A program with a journal, which keeps itself: no log is written beside it.
+"""A program with a journal, which keeps itself.
 
 The program commits what one read gave to the journal in its folder, and answers only then (docs/JOURNAL.md). So a
 call that was answered is on the disk, and the program needs no lines again when it is opened: it goes on from its
@@ -7,8 +7,6 @@ reply again under its key, wants a log.
 
 It is compacted while the program serves, from time to time by itself (background.py): snapshots take the place of its
 first batches, and an opening takes as long as what is alive and what came since then.
-
-moving.py makes a journal of a log, and a log of a journal.
 """
 
 from __future__ import annotations
@@ -20,8 +18,10 @@ from typing import BinaryIO, Iterable, Iterator, List, Optional, Sequence, Tuple
 
 from wfserve.checkpoint import Checkpoint, beside, settled
 from wfserve.errors import (
-    CheckpointDamaged, Ended, JournalDamaged, LogFault, LogInUse, NotOpened, OtherJournal, OtherSettings, RefusedSettings,
+    CheckpointDamaged, Ended, JournalDamaged, LogFault, LogInUse, NoJournal, NotOpened, OtherJournal, OtherSettings,
+    RefusedSettings,
 )
+from wfserve.frames import sync_names
 from wfserve.journal import Journal, JournalSettings, first_settings, journal_in, last_moment_in
 
 from .background import Compaction, Compactor
@@ -56,18 +56,18 @@ def journal_settings(settings: Settings) -> JournalSettings:
 class JournaledProgram:
     """A program that has opened the journal in a folder. Its settings are those that are wanted, or the journal's.
 
-    The first opening makes the journal. What the program refuses is a LogFault: LogInUse, JournalDamaged,
-    CheckpointDamaged, OtherSettings, OtherJournal, RefusedSettings, or NotOpened with the program's text.
+    The first opening makes the folder and the journal. What is refused is a LogFault: NoJournal where a file is named, and
+    by the program LogInUse, JournalDamaged, CheckpointDamaged, OtherSettings, OtherJournal, RefusedSettings, or NotOpened
+    with its text.
     """
 
     def __init__(
         self, command: Sequence[str], folder: str, wanted: Optional[Settings], compaction: Optional[Compaction] = None,
     ):
+        make_folder(folder)
         self.path = journal_in(folder)
         found = None if wanted is not None else first_settings(self.path)
         self.settings = wanted or (settings_from(found) if found is not None else Settings())
-        # How many lines it was given since it was opened.
-        self.lines = 0
         self.program = self._opened([*command, *self.settings.options(), "--journal", folder])
         self.last_moment = last_moment_in(self.path)
         self.compactor = Compactor(folder, command, compaction)
@@ -93,10 +93,6 @@ class JournaledProgram:
         checkpoint = beside(self.path)
         return checkpoint.size if checkpoint is not None else 0
 
-    def keep(self, lines: Sequence[bytes]) -> None:
-        """Counts lines that the program is about to be given. It keeps them itself."""
-        self.lines += len(lines)
-
     def record_lines(self) -> List[Iterable[bytes]]:
         """The lines of each shard's snapshot, where there is one, and then of its record, of all that was answered by now."""
         def found(_: Optional[Checkpoint]) -> List[Iterable[bytes]]:
@@ -114,6 +110,18 @@ class JournaledProgram:
         self.compactor.close()
         self.program.end_input()
         return self.program.wait()
+
+
+def make_folder(path: str) -> None:
+    """Makes the folder of a journal where there is none. NoJournal where a file is in its place, as a log."""
+    if os.path.isdir(path):
+        return
+    if os.path.lexists(path):
+        raise NoJournal(
+            f"{path}: a file, and no journal's folder: where it is a log, `wf move-log {path} FOLDER` makes a journal of it"
+        )
+    os.mkdir(path, 0o700)
+    sync_names(os.path.dirname(os.path.abspath(path)))
 
 
 def lines_of(file: BinaryIO) -> Iterator[bytes]:

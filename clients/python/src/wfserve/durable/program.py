@@ -8,14 +8,11 @@ import re
 import subprocess
 import threading
 from collections import deque
-from typing import Callable, Deque, Sequence, Tuple
+from typing import Deque, Sequence
 
 from wfserve.errors import Ended
 from wfserve.types import Reply
 
-# A line that is answered by every program that has opened, and leaves all as it was: the first part of a
-# dispatch turn only reads.
-CHANGES_NOTHING = b'{"op":"dispatch_turn","shard":0,"stop":1}'
 # A line that is refused before any step.
 NO_CALL = b"{}"
 LINES_KEPT = 5
@@ -27,7 +24,7 @@ LINE = re.compile(rb'"line": ?([0-9]+)')
 
 
 def numbered(text: bytes, expected: int, line: int) -> bytes:
-    """A reply's text with its line's number in the log, in the place of the number that the program expects."""
+    """A reply's text with its line's number for the caller, in the place of the number that the program expects."""
     begin = b'{"line":%d,' % expected
     if text.startswith(begin):
         return text if line == expected else b'{"line":%d,%s' % (line, text[len(begin):])
@@ -46,16 +43,15 @@ def hand_on(line: bytes) -> None:
 
 
 class Program:
-    """A running program. What it says on standard error is handed on, but for lines with a text of `unsaid`."""
+    """A running program. What it says on standard error is handed on."""
 
-    def __init__(self, command: Sequence[str], unsaid: Sequence[str] = ()):
+    def __init__(self, command: Sequence[str]):
         self._process = subprocess.Popen(
             command, stdin=subprocess.PIPE, stdout=subprocess.PIPE, stderr=subprocess.PIPE
         )
         process = self._process
         assert process.stdin is not None and process.stdout is not None and process.stderr is not None
         self._input, self._output, self._errors = process.stdin, process.stdout, process.stderr
-        self._unsaid = unsaid
         self._said: Deque[str] = deque(maxlen=LINES_KEPT)
         # How many replies were read.
         self.replies = 0
@@ -64,10 +60,8 @@ class Program:
 
     def _listen(self) -> None:
         for line in self._errors:
-            text = line.decode(errors="replace").strip()
-            self._said.append(text)
-            if not any(unsaid in text for unsaid in self._unsaid):
-                hand_on(line)
+            self._said.append(line.decode(errors="replace").strip())
+            hand_on(line)
 
     def said(self) -> str:
         """The last of what it said on standard error. It has to have ended."""
@@ -83,20 +77,13 @@ class Program:
             pass
 
     def reply(self, line: int) -> Reply:
-        """The next reply, under the number that its line has in the log."""
-        return {**json.loads(self.reply_text(line)), "line": line}
-
-    def reply_text(self, line: int) -> bytes:
-        """The next reply's text, under the number that its line has in the log."""
-        return self.reply_text_by(lambda: line)
-
-    def reply_text_by(self, line: Callable[[], int]) -> bytes:
-        """The next reply's text, under the number of its line, which is asked for once the reply is there."""
+        """The next reply, under this number of its line. Ended where there is none."""
         text = self._output.readline()
         if not text.endswith(b"\n"):
-            raise self.ended(line())
+            raise self.ended(line)
         self.replies += 1
-        return numbered(text[:-1], self.replies, line())
+        reply: Reply = json.loads(numbered(text[:-1], self.replies, line))
+        return reply
 
     def ended(self, line: int) -> Ended:
         """How it ended, which it has to have done; this line was not answered."""
@@ -104,19 +91,10 @@ class Program:
         said = self.said()
         return Ended(f"line {line}: the program ended with status {status}" + (f": {said}" if said else ""))
 
-    def pipes(self) -> Tuple[int, int]:
-        """The files of its input and its output, for who waits for both. All its replies so far were read."""
-        return self._input.fileno(), self._output.fileno()
-
     @property
     def pid(self) -> int:
         """The number of its process."""
         return self._process.pid
-
-    def check_answers(self) -> None:
-        """Returns once it has opened and answered a line that changes nothing. Ended where it doesn't."""
-        self.write([CHANGES_NOTHING])
-        self.reply(0)
 
     def check_opened(self) -> None:
         """Returns once it has opened and refused what is no call, which makes no step. Ended where it doesn't."""
@@ -128,10 +106,6 @@ class Program:
             self._input.close()
         except BrokenPipeError:
             pass
-
-    def strike(self) -> None:
-        """Has it end at once, also where another thread waits for its replies."""
-        self._process.kill()
 
     def kill(self) -> None:
         """Ends it at once."""

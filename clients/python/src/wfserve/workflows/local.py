@@ -15,14 +15,16 @@ from .worker import Worker
 
 
 def run(
-    command: Sequence[str], log: str, workflow: Callable[..., Any], activities: Iterable[Callable[..., Any]], workflow_id: str,
+    command: Sequence[str], folder: str, workflow: Callable[..., Any], activities: Iterable[Callable[..., Any]], workflow_id: str,
     *arguments: Any,
 ) -> Any:
-    """The workflow's value, or Failure. Killed at any moment and run again with the same log, it goes on.
+    """The workflow's value, or Failure. Killed at any moment and run again with the same folder, it goes on.
 
-    Texts that are too long for a history lie in a folder beside the log, with its name and `.blobs` after it."""
+    The folder has the service's journal, and is made where there is none. Texts that are too long for a history lie in a
+    folder beside it, with its name and `.blobs` after it.
+    """
     clock = WallClock()
-    with DurableService(command, log, clock=clock) as service:
+    with DurableService(command, folder, clock=clock) as service:
         clock.go_on_from(service.last_moment)
         converter = JSON.with_blobs(service)
         service.start(workflow_id, type_of(workflow), input=converter.input_of(arguments), request_id=workflow_id)
