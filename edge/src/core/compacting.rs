@@ -205,7 +205,7 @@ impl Core {
     fn go_on(&self, is_asked: bool) -> Result<u64, Fault> {
         let state = self.lock();
         match &state.phase {
-            Phase::Over(fault) => Err(fault.clone()),
+            Phase::Over { fault, .. } => Err(fault.clone()),
             Phase::Closed => Err(Fault::Draining),
             Phase::Draining if !is_asked => Err(Fault::Draining),
             _ if state.compaction.window.is_given_up() => {

@@ -185,7 +185,7 @@ impl Core {
         }
         state.compaction.serve_on();
         match &state.phase {
-            Phase::Over(fault) => Err(fault.clone()),
+            Phase::Over { fault, .. } => Err(fault.clone()),
             Phase::Closed => Err(Fault::Draining),
             Phase::Serving | Phase::Draining => {
                 state.compaction.exchange_now();

@@ -95,16 +95,15 @@ impl State {
 
     /// Why no call is taken now; none where they are.
     pub fn not_ready(&self) -> Option<NotReady> {
-        match self.phase {
-            Phase::Draining | Phase::Closed => Some(NotReady::Draining),
-            _ if self.log.is_broken => Some(NotReady::Broken),
-            Phase::Over(_) => Some(NotReady::Ended),
-            _ if self.log.is_full => Some(NotReady::Full),
-            // The reader learns a little later that the program has ended.
-            Phase::Serving if self.in_flight.is_restarting() || system::has_ended(self.in_flight.pid) => {
-                Some(NotReady::Restarting)
-            }
-            Phase::Serving => None,
+        match self {
+            State { phase, .. } if phase.is_closing() => Some(NotReady::Draining),
+            State { log: LogState { is_broken: true, .. }, .. } => Some(NotReady::Broken),
+            State { phase: Phase::Over { .. }, .. } => Some(NotReady::Ended),
+            State { log: LogState { is_full: true, .. }, .. } => Some(NotReady::Full),
+            State { in_flight, .. } if in_flight.is_restarting() => Some(NotReady::Restarting),
+            // The reader learns of it a little later.
+            State { in_flight, .. } if system::has_ended(in_flight.pid) => Some(NotReady::Restarting),
+            _ => None,
         }
     }
 

@@ -1,7 +1,6 @@
 //! How far an edge is on its way to its end, and why it takes no calls.
 
 use crate::call::fault::Fault;
-use std::mem::replace;
 
 /// How far an edge is. It never goes back.
 ///
@@ -13,8 +12,11 @@ pub enum Phase {
     Draining,
     /// It has stopped.
     Closed,
-    /// Nothing is served any more: why.
-    Over(Fault),
+    /// Nothing is served any more: why, and whether it was told to stop before.
+    Over {
+        fault: Fault,
+        was_closing: bool,
+    },
 }
 
 impl Phase {
@@ -26,34 +28,34 @@ impl Phase {
     }
 
     pub fn close(&mut self) {
-        if !matches!(self, Phase::Over(_)) {
+        if self.over().is_none() {
             *self = Phase::Closed;
         }
     }
 
     /// Serves nothing any more. The first reason for that stays.
     pub fn end(&mut self, fault: Fault) {
-        if let Phase::Over(first) = replace(self, Phase::Over(fault)) {
-            *self = Phase::Over(first);
+        if self.over().is_none() {
+            *self = Phase::Over { fault, was_closing: self.is_closing() };
         }
     }
 
     /// Why nothing is served any more.
     pub fn over(&self) -> Option<&Fault> {
         match self {
-            Phase::Over(fault) => Some(fault),
+            Phase::Over { fault, .. } => Some(fault),
             _ => None,
         }
     }
 
     /// Whether it was told to stop.
     pub fn is_closing(&self) -> bool {
-        matches!(self, Phase::Draining | Phase::Closed)
+        matches!(self, Phase::Draining | Phase::Closed | Phase::Over { was_closing: true, .. })
     }
 
     /// Whether its threads end.
     pub fn is_at_its_end(&self) -> bool {
-        matches!(self, Phase::Closed | Phase::Over(_))
+        matches!(self, Phase::Closed | Phase::Over { .. })
     }
 }
 
@@ -100,6 +102,10 @@ mod tests {
         phase.end(Fault::Ended("second".to_string()));
         phase.close();
         assert_eq!(phase.over(), Some(&Fault::Ended("first".to_string())));
-        assert!(phase.is_at_its_end());
+        assert!(phase.is_closing() && phase.is_at_its_end());
+        let mut phase = Phase::Serving;
+        phase.end(Fault::Ended(String::new()));
+        phase.drain();
+        assert!(!phase.is_closing() && phase.is_at_its_end());
     }
 }
