@@ -150,11 +150,11 @@ module _ (Opened : Opening) (x : Service) (ps : List Pass) (opened : Opened x ps
       refused_is = h.refused_is;
     }
 
-    pub committed-so : {D : Type 0} (held_by : HintsHeld Opened) (tells : D → Type 0) (seen : D → List ℕ) (may_leave : D → List ℕ → List ℕ → Type 0) (r r' : Option (List ℕ)) (told : List ℕ) (journal : Journal D) (refused : Bool)
+    pub committed-so : {D : Type 0} (held_by : HintsHeld Opened) (tells : D → Type 0) (seen : D → List ℕ) (may_leave : D → List ℕ → List ℕ → Type 0) (flushed : D → List ℕ → Type 0) (r r' : Option (List ℕ)) (told : List ℕ) (journal : Journal D) (refused : Bool)
         → ((y : Service) (qs : List Pass) (o : Opened y qs) (slot : ℕ) → slot < 2 * length K.queues → matching.held_at (matching.held_of y.queues) slot ≡ matching.held_at (held_by y qs o) slot)
-        → CommittedInBatches (Exactly x ps) (hints_of (Exactly x ps)) tells seen may_leave K R r r' told journal refused → CommittedInBatches Opened held_by tells seen may_leave K S r r' told journal refused
+        → CommittedInBatches (Exactly x ps) (hints_of (Exactly x ps)) tells seen may_leave flushed K R r r' told journal refused → CommittedInBatches Opened held_by tells seen may_leave flushed K S r r' told journal refused
     unfolding batches-so
-    committed-so held_by tells seen may_leave r r' told journal refused held h = record { ran = batches-so held_by r r' refused held h.ran; batches = h.batches; at = h.at; records = h.records }
+    committed-so held_by tells seen may_leave flushed r r' told journal refused held h = record { ran = batches-so held_by r r' refused held h.ran; batches = h.batches; at = h.at; records = h.records }
 
   pub survive-so : {D : Type 0} (moment : D → ℕ) (left_since : D → ℕ → List ℕ → List ℕ → Type 0) (K : Settings) (R S : List (List Entry)) (r r' : Option (List ℕ)) (told : List ℕ) (old new : D) → R ≡ S
       → AllSurviveOver (Exactly x ps) moment left_since K R r r' told old new → AllSurviveOver Opened moment left_since K S r r' told old new

@@ -5,7 +5,7 @@ ghost use Rattle.checkpoints.specs.Restored.{AreRestored, IsRestored, SpellInOrd
 
 use crate::fault::Fault;
 use crate::paths::snapshot_path;
-use crate::records::at_path;
+use crate::records::{at_path, read_synced};
 use checkpoint_text::SnapshotFile;
 use checkpoints::{Checkpointed, LoadFault, Restored, restore_shard, stand_in_order};
 use journal_frames::check_of;
@@ -82,7 +82,7 @@ fn is_expected(
     }
 }
 
-/// The shard that its snapshot restores.
+/// The shard that its snapshot restores. One that a checkpoint names is on the system's disk then.
 fn load_one<S: Checkpointed, H: Files + AllocGlobal>(
     rt: &H,
     from: Snapshots<'_>,
@@ -94,7 +94,10 @@ fn load_one<S: Checkpointed, H: Files + AllocGlobal>(
 {
     let alloc = rt.alloc();
     let path = snapshot_path(alloc, from.folder, shard)?;
-    let text = at_path(path.as_str(), alloc, fs::read(rt, path.as_str()))?;
+    let text = match from.files {
+        Some(_) => read_synced(rt, path.as_str())?,
+        None => at_path(path.as_str(), alloc, fs::read(rt, path.as_str()))?,
+    };
     if !is_expected(alloc, from, shard, &text)? {
         return Err(Fault::OtherSnapshot { path });
     }
