@@ -57,6 +57,12 @@ if name == os.environ.get("HANGS"):
     child = subprocess.Popen(["timeout", "100", "sleep", "99"])
     open(f"{seen}.pid", "w").write(f"{os.getpid()} {child.pid}")
     child.wait()
+if "HANGS" in os.environ and name == os.environ.get("FAILS"):
+    # It fails once the other one hangs.
+    late = time.monotonic() + 30
+    while not os.path.exists(f"{seen}.pid") and time.monotonic() < late:
+        time.sleep(0.05)
+    time.sleep(0.2)
 if name == os.environ.get("LACKS"):
     print("gate: could not be done here: its browser: chromium is not here")
 open(f"{seen}.{name}", "w").close()
