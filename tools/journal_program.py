@@ -41,6 +41,7 @@ class Tested:
     program = ROOT / "crates/wfserve/out/wfserve"
     seed = random.randrange(1_000_000)
     kills = 0
+    rounds = 0
     # Of bytes and calls one in so many is tried.
     every = 1
 
