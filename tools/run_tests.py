@@ -3,8 +3,9 @@
 
     tools/run_tests.py FOLDER [SECONDS]     in so many seconds, if they are given
 
-Tests that only wait for the built program are counted alone: `tools/gate clients` runs them. The status is 1 where a test
-fails or can't be loaded. Where they take too long it is 1 too, and standard error has what each thread was at.
+Tests that only wait for the built program, or for a server, are counted alone: `tools/gate clients` and `tools/gate edge`
+run them. The status is 1 where a test fails or can't be loaded. Where they take too long it is 1 too, and standard error has
+what each thread was at.
 """
 from __future__ import annotations
 
@@ -16,7 +17,8 @@ from pathlib import Path
 
 # Tests of this folder's tools import their own modules first.
 sys.path[:] = [path for path in sys.path if Path(path or ".").resolve() != Path(__file__).resolve().parent]
-OF_PROGRAM = "wfserve is not built"
+# How the reasons begin of tests that wait, and what these wait for.
+WAITING = {"wfserve is not built": "the built program", "no loopback, no Python with aiohttp": "a server"}
 
 
 def named(test: object) -> str:
@@ -26,15 +28,20 @@ def named(test: object) -> str:
     return name.rpartition(".")[0] if isinstance(whole, unittest.TestCase) else name
 
 
+def waits_for(why: str) -> str:
+    """What a test waits for that is skipped for this reason, or nothing."""
+    return next((what for begins, what in WAITING.items() if why.startswith(begins)), "")
+
+
 def told(skipped: list[tuple[object, str]]) -> list[str]:
-    """A line for each class and reason, but for those that wait for the program."""
+    """A line for each class and reason, but for those that wait."""
     counts: dict[str, int] = {}
     for test, why in skipped:
-        if not why.startswith(OF_PROGRAM):
+        if not waits_for(why):
             counts[f"{named(test)}: {why}"] = counts.get(f"{named(test)}: {why}", 0) + 1
-    waiting = sum(why.startswith(OF_PROGRAM) for _, why in skipped)
+    waiting = {what: sum(waits_for(why) == what for _, why in skipped) for what in WAITING.values()}
     lines = [f"gate: skipped: {count} of {what}" for what, count in sorted(counts.items())]
-    return lines + ([f"gate: {waiting} tests wait for the built program"] if waiting else [])
+    return lines + [f"gate: {count} tests wait for {what}" for what, count in waiting.items() if count]
 
 
 def main(words: list[str]) -> int:

@@ -65,7 +65,8 @@ class Stored(unittest.TestCase):
             self.assertIn(f"{named} is no MODULE:WORKFLOW", said.getvalue())
 
     def test_a_server_that_is_not_there_is_said(self):
-        for url, wrong in {"http://127.0.0.1:1": "CallLost", "https://127.0.0.1:1": "no address as"}.items():
+        said_of = {"http://127.0.0.1:1": "CallLost", "https://127.0.0.1:1": "CallLost", "ftp://127.0.0.1:1": "no address as"}
+        for url, wrong in said_of.items():
             said = io.StringIO()
             with contextlib.redirect_stderr(said):
                 self.assertEqual(workflows_main(["start", url, "examples.order:order", "w"]), 2)

@@ -30,7 +30,7 @@ from typing import Iterator, List, Optional, Sequence
 
 from wfserve.checkpoint import Checkpoint, checkpoint_in, measured, number_in, read_checkpoint, snapshot_in
 from wfserve.errors import CompactionRuns, NotCompacted
-from wfserve.frames import CHECK_LETTERS, END, START, JournalSettings, framed, mapped, sync_names
+from wfserve.frames import CHECK_LETTERS, END, START, Batch, JournalSettings, framed, mapped, sync_names
 from wfserve.journal import MOMENT, Journal, journal_in, write_folder
 from wfserve.snapshots import head_and_last
 
@@ -119,7 +119,7 @@ def _compacted(folder: str, command: Sequence[str], lock: int, journal: Journal)
         return None
     check_is_own(journal, settings)
     # What snapshots stand for has to be on the disk.
-    sync_data(journal.path)
+    write_again(journal, journal.batches[-1])
     source = os.path.join(folder, "compaction.new")
     write_folder(journal, source, linked=True)
     check = journal.bytes_of(journal.batches[-1])[-CHECK_LETTERS - 1:-1].decode()
@@ -145,13 +145,16 @@ def last_moment(journal: Journal) -> int:
     return max((int(found[1]) for text in journal.texts() for found in MOMENT.finditer(text)), default=0)
 
 
-def sync_data(path: str) -> None:
-    """Has the disk keep what a file has by now."""
-    file = os.open(path, os.O_RDONLY)
-    try:
-        os.fdatasync(file)
-    finally:
-        os.close(file)
+def write_again(journal: Journal, batch: Batch) -> None:
+    """Has the disk keep the batches up to this one, which is written over itself.
+
+    Of a batch whose sync failed the system may have the only copy, and take it for written.
+    """
+    with open(journal.path, "r+b") as file:
+        file.seek(batch.begin)
+        file.write(journal.bytes_of(batch))
+        file.flush()
+        os.fdatasync(file.fileno())
 
 
 def options_of(settings: JournalSettings) -> List[str]:
