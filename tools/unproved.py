@@ -196,7 +196,8 @@ def build(name: str, program: Path, tests: bool, checks: Checks) -> None:
     """Leaves the program of a crate under this name, or that of its tests."""
     program.parent.mkdir(parents=True, exist_ok=True)
     began = time.time()
-    with tempfile.TemporaryDirectory(dir=program.parent) as folder:
+    # Not in this tree: `rt ci` refuses sources that no crate of it has, and may run meanwhile.
+    with tempfile.TemporaryDirectory(prefix="unproved-") as folder:
         top, linked = Path(folder, "tree"), Path(folder, "program")
         lay_out(name, top)
         made = linked if checks is Checks.MEMORY else Path(folder, "module.bc")
@@ -205,7 +206,9 @@ def build(name: str, program: Path, tests: bool, checks: Checks) -> None:
             compile_module(made, linked)
         # A source that was changed meanwhile is newer.
         os.utime(linked, (began, began))
-        linked.replace(program)
+        beside = program.with_name(f"{program.name}.new")
+        shutil.copy2(linked, beside)
+        beside.replace(program)
 
 
 @contextlib.contextmanager
