@@ -286,13 +286,15 @@ class Opened(unittest.TestCase):
         self.assertEqual(served([], folder), [])
         self.assertEqual(file.read_bytes(), whole + b"\0" * 103)
 
-    def test_where_zeros_stand_nothing_is_written(self) -> None:
+    def test_the_last_batch_is_written_again_and_nothing_changes(self) -> None:
         folder = self.fresh()
         served([start("a")], folder)
         file = pathlib.Path(folder, "journal")
+        before = file.read_bytes()
         os.utime(file, (0, 0))
         self.assertEqual(served([], folder), [])
-        self.assertEqual(file.stat().st_mtime, 0)
+        self.assertGreater(file.stat().st_mtime, 0)
+        self.assertEqual(file.read_bytes(), before)
 
     def test_a_second_program_is_refused(self) -> None:
         folder = self.fresh()

@@ -4,6 +4,7 @@ WFSERVE_SEED draws other calls.
 """
 
 import contextlib
+import dataclasses
 import io
 import json
 import os
@@ -35,9 +36,9 @@ class Moved(Journaled):
             service.clock.now += draw.randrange(1_000)
             made_up_call(service, draw, draw.choice(IDS), number)
 
-    def logged(self, draw, count=150):
+    def logged(self, draw, count=150, settings=TWO):
         """A log with drawn calls. One that is there is gone on with."""
-        with Logged(self.log, TWO, Clock(1_000)) as service:
+        with Logged(self.log, settings, Clock(1_000)) as service:
             self.fill(service, draw, count)
 
     def journaled(self, draw):
@@ -85,7 +86,8 @@ class Moved(Journaled):
 
     def test_a_log_that_goes_on_from_records_is_moved_by_records(self):
         draw = random.Random(SEED)
-        self.logged(draw)
+        # A load of records is refused where more tasks wait than a queue holds.
+        self.logged(draw, settings=dataclasses.replace(TWO, capacity=1_024))
         with Logged(self.log) as service:
             service.compact("--save")
         self.logged(draw, 50)
