@@ -6,7 +6,6 @@ the snapshots of the next one. WFSERVE_SEED draws other moments, WFEDGE_TAKEOVER
 wait of a call measured, of a table that has so many calls: by hand alone, since another load of the machine stretches it.
 """
 
-import json
 import os
 import pathlib
 import random
@@ -24,6 +23,7 @@ from by_hand import replies_of
 from support.programs import BUILT, needs_program
 from support.served import until
 from tables import CLIENTS, HOUR, PATIENCE, SEED, Caller, OverATable, needs_client, needs_postgres
+from wfserve.durable.edge_log import header_of
 
 # In seconds: a program without proofs writes snapshots slowly.
 LONG = 600
@@ -249,7 +249,7 @@ class OfEarlierVersions(OfTables):
         epoch = self.database.rows("select epoch from wfserve_leader")[0]
         for number, (name, data) in enumerate(pieces, 1):
             self.database.rows(f"insert into wfserve_records values ({epoch}, 1, {number}, '{name}', '\\x{data.hex()}')")
-        header = json.dumps({**json.loads(it.settings.header()), "compacted": 1}).encode().hex()
+        header = header_of(it.settings, 1).hex()
         last = int(self.database.rows("select max(number) from wfserve_log")[0])
         self.database.rows(f"insert into wfserve_starts values (1, {last + 1}, {epoch}, now());"
                            f"insert into wfserve_log values ({last + 1}, {epoch}, '\\x{header}')")
